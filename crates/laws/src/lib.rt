@@ -1,0 +1,1 @@
+// No code: the laws in proofs/ that several crates cite.
