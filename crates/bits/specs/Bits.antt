@@ -1,12 +1,13 @@
 -- A register's bits.
 -- Assumes nothing.
-use Prim.Native.Nat.{ℕ, _/_, _%_, _^_}
+use Prim.Native.Nat.{ℕ, zero, suc, _/_, _%_, _^_}
 use mathlib.Core.Bool.{Bool, true, false, not, _&&_, Bool·beq}
 use lib.Dec.{eqb}
 
 -- bit k of a number
 abbrev pub bit : ℕ → ℕ → Bool
-bit k v = eqb (v / 2 ^ k % 2) 1
+bit zero v = eqb (v % 2) 1
+bit (suc k) v = eqb (v / 2 ^ suc k % 2) 1
 
 -- what a bit adds at place 0
 abbrev pub num : Bool → ℕ

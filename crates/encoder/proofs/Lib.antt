@@ -1,0 +1,4 @@
+pub mod Wrap
+pub mod Proved
+mod Machine
+mod Rules
