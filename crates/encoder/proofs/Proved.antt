@@ -1,14 +1,14 @@
 -- The facts of specs/Facts.antt.
 -- Assumes nothing.
-use mathlib.Core.Path.{_≡_, refl, ap, _∙_}
-use mathlib.Core.Bool.{Bool, true, false, not, cond, _&&_, _||_}
+use mathlib.Core.Path.{_≡_, refl, sym, ap, _∙_}
+use mathlib.Core.Bool.{Bool, true, false, not, cond, _&&_, _||_, and-true}
 use mathlib.Core.List.{List, [], _∷_}
 use Prim.Native.Nat.{ℕ, _<_}
 use lib.Dec.{eqb, eqb→eq}
 use lib.IntN.{pos}
 use lib.ListN.{replicate}
 use Rattle.bits.specs.Bits.{bit}
-use Rattle.bits.proofs.Laws.{same}
+use Rattle.laws.proofs.Truth.{same-not}
 use Rattle.laws.proofs.Table.{at}
 use Rattle.encoder.specs.declared.Encoder.{Encoder}
 use Rattle.encoder.specs.Encoder.{onPins, onCnfg, cnfgOf, fresh}
@@ -59,8 +59,4 @@ unfolding reads
 read-back v e h = eqb→eq (cnfgOf (onCnfg v e)) v (at reads (replicate 32 0) tt v h)
 
 pub keeps-seen : KeepsSeen
-keeps-seen v e en mode = rw (same (e .config .en) (bit 0 v) en, same (e .config .mode) (bit 2 v) mode) (kept (e .seen))
-  where
-    kept : (s : Bool) → (s && true) ≡ s
-    kept true = refl
-    kept false = refl
+keeps-seen v e en mode = rw (same-not (e .config .en) (bit 0 v) (sym en), same-not (e .config .mode) (bit 2 v) (sym mode)) (and-true (e .seen))

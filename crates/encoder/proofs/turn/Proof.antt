@@ -9,7 +9,6 @@ use lib.Dec.{eqb, eqb→eq}
 use lib.ListN.{getD}
 use borrow.Author.Needs.{needs}
 use Rattle.encoder.specs.Encoder.{place, turned}
-use Rattle.bits.proofs.Laws.{even}
 use Rattle.laws.proofs.Table.{at}
 use Rattle.encoder.proofs.turn.Statement.{statement}
 use Rattle.encoder.proofs.turn.Tie as tie
@@ -19,6 +18,9 @@ turns = 0 ∷ 1 ∷ 3 ∷ 2 ∷ 3 ∷ 0 ∷ 2 ∷ 1 ∷ 1 ∷ 2 ∷ 0 ∷ 3 ∷ 
 
 right : ℕ → ℕ → Bool
 right k x = eqb x (turned (k / 4) (k % 4))
+
+even : (q s : ℕ) → (q * 2 + s) % 2 ≡ s % 2
+even q s = omega arith
 
 -- of each only the two pins count
 two : (n : ℕ) → place (n % 4) ≡ place n

@@ -1,0 +1,2 @@
+pub mod Proved
+mod Rules

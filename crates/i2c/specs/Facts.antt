@@ -1,0 +1,30 @@
+-- What is shown of the rules: paper 01's sum of the allowed codes.
+-- Assumes nothing.
+use Prim.Native.Nat.{ℕ, zero, suc, _+_}
+use mathlib.Core.Path.{_≡_}
+use mathlib.Core.Bool.{Bool}
+use Rattle.bits.specs.Bits.{num}
+use Rattle.i2c.specs.declared.Phase.{Phase}
+use Rattle.i2c.specs.declared.Phase.the-variants.{Idle, TxIdle, RxIdle}
+use Rattle.i2c.specs.declared.I2c.{I2c}
+use Rattle.i2c.specs.I2c.{codeOf, allowed, refusalOf, onGo}
+
+-- how many of 0 .. n - 1 pass a test
+abbrev pub count : (ℕ → Bool) → ℕ → ℕ
+count f zero = 0
+count f (suc n) = count f n + num (f n)
+
+-- how many of a state's 32 combinations, R/S 0 or 1 and CNTL 0 to 15, are allowed
+abbrev pub allowedFrom : Phase → ℕ
+allowedFrom p = count (λ (cntl : ℕ). allowed p (codeOf 0 cntl)) 16 + count (λ (cntl : ℕ). allowed p (codeOf 1 cntl)) 16
+
+-- "of 96 state, R/S and CNTL combinations, 36 are allowed: 7 idle, 15 TX idle, 14 RX idle"
+pub record Sums : Type 0 where
+  pub all : allowedFrom Idle + allowedFrom TxIdle + allowedFrom RxIdle ≡ 36
+  pub idle : allowedFrom Idle ≡ 7
+  pub tx : allowedFrom TxIdle ≡ 15
+  pub rx : allowedFrom RxIdle ≡ 14
+
+-- a GO is refused by 11 or by nothing, and one that is refused changes nothing
+abbrev pub RefusedStays : Type 0
+RefusedStays = (c : I2c) → (refusalOf c ≡ 0 → ⊥) → (refusalOf c ≡ 11) × (onGo c ≡ c)

@@ -1,0 +1,69 @@
+-- The I2C control sequencer, as paper 01 has it.
+-- Assumes nothing.
+use Prim.Native.Nat.{ℕ}
+use mathlib.Core.Bool.{Bool, true, false, not, cond, _&&_, _||_}
+use Rattle.bits.specs.Bits.{bit}
+use Rattle.i2c.specs.declared.Phase.{Phase}
+use Rattle.i2c.specs.declared.Phase.the-variants.{Idle, TxIdle, RxIdle}
+use Rattle.i2c.specs.declared.I2c.{I2c}
+use Rattle.i2c.specs.declared.Code.{Code}
+
+-- "ADDR bit 0 is R/S. CNTL: bit 0 TX/RX, 1 START, 2 STOP, 3 ACK"
+abbrev pub codeOf : ℕ → ℕ → Code
+codeOf addr cntl = record { receive = bit 0 addr; byte = bit 0 cntl; start = bit 1 cntl; stop = bit 2 cntl; ack = bit 3 cntl }
+
+-- "States read 0 idle, 1 TX idle, 2 RX idle"
+abbrev pub stateOf : Phase → ℕ
+stateOf Idle = 0
+stateOf TxIdle = 1
+stateOf RxIdle = 2
+
+-- not idle
+abbrev pub busy : Phase → Bool
+busy Idle = false
+busy TxIdle = true
+busy RxIdle = true
+
+-- "in TX idle with R/S 0 or RX idle with R/S 1"
+abbrev pub matches : Phase → Bool → Bool
+matches Idle receive = false
+matches TxIdle receive = not receive
+matches RxIdle receive = receive
+
+-- "TX/RX 0: allowed only with START 0, STOP 1, not idle"
+-- "TX/RX 1: refused if R/S, ACK and STOP are all 1. START 1 is allowed from each state; START 0 only in TX idle with R/S 0 or RX
+-- idle with R/S 1"
+unfoldable pub allowed : Phase → Code → Bool
+allowed p k =
+    cond (k .byte)
+    (not (k .receive && (k .ack && k .stop)) && (k .start || matches p (k .receive)))
+    (not (k .start) && (k .stop && busy p))
+
+-- "TX/RX 0: .. ends idle"
+-- "TX/RX 1: .. Ends idle on STOP, else TX idle for R/S 0, RX idle for 1"
+abbrev pub ended : Code → Phase
+ended k = cond (k .byte) (cond (k .stop) Idle (cond (k .receive) RxIdle TxIdle)) Idle
+
+-- ---- what happens to the sequencer
+
+-- the code that a GO would run
+abbrev pub code : I2c → Code
+code c = codeOf (c .addr) (c .cntl)
+
+abbrev pub onAddr : ℕ → I2c → I2c
+onAddr v c = record { addr = v; cntl = c .cntl; phase = c .phase }
+
+abbrev pub onCntl : ℕ → I2c → I2c
+onCntl v c = record { addr = c .addr; cntl = v; phase = c .phase }
+
+-- refusal 11: "GO with a control code not allowed"; 0 where it is allowed
+abbrev pub refusalOf : I2c → ℕ
+refusalOf c = cond (allowed (c .phase) (code c)) 0 11
+
+-- a GO; one that is refused changes nothing
+abbrev pub onGo : I2c → I2c
+onGo c = cond (allowed (c .phase) (code c)) (record { addr = c .addr; cntl = c .cntl; phase = ended (code c) }) c
+
+-- "Fresh state: all registers 0, I2C idle"
+abbrev pub fresh : I2c
+fresh = record { addr = 0; cntl = 0; phase = Idle }

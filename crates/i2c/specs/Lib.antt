@@ -1,0 +1,2 @@
+pub mod I2c
+pub mod Facts

@@ -1,0 +1,2 @@
+pub mod Pwm
+pub mod Facts

@@ -1,0 +1,4 @@
+mod Some
+mod Fields
+mod Clauses
+pub mod Proved
