@@ -1,0 +1,4 @@
+mod Arms
+mod Sweep
+pub mod Whole
+pub mod Proved

@@ -1,0 +1,28 @@
+use Rattle.bank.specs.Bank.{refusalOf}
+use Rattle.bank.proofs.Arms.{refusal-arm, refusal-encoder, refusal-pwm, refusal-i2c}
+use borrow.Author.Needs.{needs}
+use Rattle.bank.proofs.refusal.Statement.{statement}
+use Rattle.bank.proofs.refusal.Tie as tie
+
+pub refusal-spec : {M : Type 1} → statement M
+unfolding refusalOf
+refusal-spec =
+    tie.close
+    (tie.spec
+    (λ c. search needs)
+    (λ c κs. search needs)
+    (λ c. search needs)
+    (λ c κs. search needs)
+    (λ c κs. search needs)
+    (λ c. search needs)
+    (λ c κs. search needs)
+    (λ c κs. search needs)
+    (λ c. search needs)
+    (λ c κs. search needs)
+    (λ c κs. search needs)
+    (λ c. search needs)
+    (λ c. search refusal-arm)
+    (λ c. search refusal-encoder)
+    (λ c. search refusal-pwm)
+    (λ c. search refusal-i2c)
+    (λ c. search refusal-arm))

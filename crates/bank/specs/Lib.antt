@@ -1,0 +1,4 @@
+pub mod Events
+pub mod Bank
+pub mod Parts
+pub mod Facts

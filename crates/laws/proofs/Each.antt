@@ -1,0 +1,41 @@
+-- A loop that replaces each element of a list by f of it and its place, from the front: one law for any element type.
+-- Assumes nothing.
+use mathlib.Core.Path.{_≡_, refl, ap, sym, _∙_}
+use mathlib.Core.List.{List, [], _∷_, _++_, map}
+use Prim.Native.Nat.{ℕ, zero, suc, _+_, _≤_, _<_}
+use native.Mathlib.Omega.{arith}
+use native.Mathlib.Nat.{le-of-suc-le-suc, not-suc-le-zero, zero-add, add-zero, le-antisymm}
+use native.Mathlib.Numerals.{add-one}
+use lib.ListN.{length, take, drop, set, getD, length-map}
+use Rattle.laws.specs.Each.{mapFrom}
+
+-- an array of structs in a field: what owning it tells is of the list under a map
+pub long-field : (X Y : Type 0) (f : X → Y) (l : List X) (n : ℕ) → length (map f l) ≡ n → length l ≡ n
+long-field X Y f l n e = sym (length-map l f) ∙ e
+
+-- the first i elements replaced
+abbrev pub front : {X : Type 0} → (ℕ → X → X) → ℕ → ℕ → List X → List X
+front f k i l = mapFrom f k (take i l) ++ drop i l
+
+pub front-none : {X : Type 0} (f : ℕ → X → X) (l : List X) → front f 0 0 l ≡ l
+unfolding mapFrom
+front-none f l = refl
+
+more-from : {X : Type 0} (f : ℕ → X → X) (d : X) (k : ℕ) (l : List X) (i : ℕ) → i < length l → set (front f k i l) i (f (i + k) (getD (front f k i l) i d)) ≡ front f k (suc i) l
+unfolding mapFrom
+more-from f d k [] i h = absurd (not-suc-le-zero h)
+more-from f d k (x ∷ l) zero h = rw (zero-add k)
+more-from f d k (x ∷ l) (suc i) h =
+    let e : suc i + k ≡ i + suc k = omega arith in
+    rw e (ap (λ t. f k x ∷ t) (more-from f d (suc k) l i (le-of-suc-le-suc h)))
+
+pub front-more : {X : Type 0} (f : ℕ → X → X) (d : X) (l : List X) (i : ℕ) → i < length l → set (front f 0 i l) i (f i (getD (front f 0 i l) i d)) ≡ front f 0 (i + 1) l
+front-more f d l i h = rw (add-one i) (rw (add-zero i) at (more-from f d 0 l i h))
+
+all-from : {X : Type 0} (f : ℕ → X → X) (k : ℕ) (l : List X) → front f k (length l) l ≡ mapFrom f k l
+unfolding mapFrom
+all-from f k [] = refl
+all-from f k (x ∷ l) = ap (λ t. f k x ∷ t) (all-from f (suc k) l)
+
+pub front-all : {X : Type 0} (f : ℕ → X → X) (l : List X) (i n : ℕ) → length l ≡ n → i ≤ n → n ≤ i → front f 0 i l ≡ mapFrom f 0 l
+front-all f l i n e h k = ap (λ (j : ℕ). front f 0 j l) (le-antisymm h k ∙ sym e) ∙ all-from f 0 l
