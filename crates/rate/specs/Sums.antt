@@ -33,3 +33,15 @@ pub record RateSums : Type 0 where
 pub record RangeSums : Type 0 where
   pub pwm-39 : Answer pwm 39 0 (Refused 12)
   pub pwm-40001 : Answer pwm 40_001 0 (Refused 12)
+
+-- Of our own: "then smaller P", and the last divider. No whole rate in range lies midway between two periods or wants a divider above 16, so
+-- these are shown by other rules: at a clock of 12 the periods 2 and 3 are equally near to 5, and 10 Hz is reached by N 64 alone.
+abbrev pub twelve : Rule
+twelve = record { clock = 12; low = 1; high = 12; base = 1 }
+
+abbrev pub slow : Rule
+slow = record { clock = 40_000_000; low = 1; high = 40_000; base = 1 }
+
+pub record FarSums : Type 0 where
+  pub midway : Gives twelve 5 1_000_000 1 1
+  pub last : Gives slow 10 0 64 62_499
