@@ -26,7 +26,7 @@ build() {
     must 'rates: the second finder builds' rustc -O --edition 2021 -o "$work/rates" check/rates/main.rs
     must 'rates: the header is C99' $cc -std=c99 -O -Wall -Wextra -Wpedantic -Werror -Iinclude \
         -o "$work/header" check/rates/header.c target/staticlib/librivandoze.a
-    must 'rates: the header is C++' g++ -Wall -Wextra -Wpedantic -Werror -fsyntax-only -x c++ include/rivandoze.h
+    must 'rates: the header is C++' g++ -Wall -Wextra -Wpedantic -Werror -fsyntax-only -Iinclude -x c++ check/rates/header.c
     must 'rates: the answering program builds' $cc -std=c99 -O -Wall -Wextra -Werror -Iinclude \
         -o "$work/answers" check/rates/answers.c target/staticlib/librivandoze.a
 }

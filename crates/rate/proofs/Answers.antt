@@ -16,7 +16,7 @@ use Rattle.rate.specs.Settled.{Settled}
 use Rattle.rate.specs.Scan.{Fair, Fit, Small, scan, judge, found}
 use Rattle.rate.proofs.Dividers.{some, one}
 use Rattle.rate.proofs.Order.{within-near}
-use Rattle.rate.proofs.Scanned.{Held, AsGoodAs, pair-pos, held-small, scan-held, scan-best}
+use Rattle.rate.proofs.Scanned.{Held, AsGoodAsPair, pair-pos, held-small, scan-held, scan-best}
 
 fitting : (u : Rule) → Fair u → (f : ℕ) → InRange u f → Fit (u .clock) (u .base) f
 fitting u fair f range = omega arith
@@ -38,7 +38,7 @@ module _ (u : Rule) (fair : Fair u) (f : ℕ) (range : InRange u f) (r : Best) (
   small : Small C f (r .period)
   small = held-small C k f (fitting u fair f range) (omega arith) held
 
-  best : (d y : ℕ) → IsPair d y → AsGoodAs C k f r d y
+  best : (d y : ℕ) → IsPair d y → AsGoodAsPair C k f r d y
   best = rw is (λ d y p. scan-best C k f (fitting u fair f range) 7 (omega arith) d y (p .some) (p .most) (p .short))
 
   periods : r .period ≡ P

@@ -22,13 +22,14 @@ pub record Held (C k f i : ℕ) (r : Best) : Type 0 where
   pub ticks : r .period ≡ k * dividerOf (r .choice) * r .count
   pub past : f * r .period ≤ C + f * 128
 
-abbrev pub AsGoodAs : ℕ → ℕ → ℕ → Best → ℕ → ℕ → Type 0
-AsGoodAs C k f r d y =
+-- as good as the pair of the choice d and y
+abbrev pub AsGoodAsPair : ℕ → ℕ → ℕ → Best → ℕ → ℕ → Type 0
+AsGoodAsPair C k f r d y =
     AsGood C f (r .period) (dividerOf (r .choice)) (k * dividerOf d * (y + 1)) (dividerOf d)
 
 -- as good as each pair of the choices 1 to i
 abbrev BestOf : ℕ → ℕ → ℕ → ℕ → Best → Type 0
-BestOf C k f i r = (d y : ℕ) → 1 ≤ d → d ≤ i → y ≤ 65_535 → AsGoodAs C k f r d y
+BestOf C k f i r = (d y : ℕ) → 1 ≤ d → d ≤ i → y ≤ 65_535 → AsGoodAsPair C k f r d y
 
 -- the two counts of one divider N, at which a count is n ticks
 module _ (C f n N : ℕ) (hC : 0 < C) (hf : 0 < f) (hn : 0 < n) where
@@ -140,25 +141,25 @@ module _ (C k f : ℕ) (fit : Fit C k f) where
     finer b h = grow (b .choice) c (h .some) (omega (arith, h .seen)) hi
 
     module _ (d y : ℕ) (pos : 0 < k * dividerOf d * (y + 1)) where
-      by-mid : AsGoodAs C k f mid d y → AsGoodAs C k f (step C k f c a) d y
+      by-mid : AsGoodAsPair C k f mid d y → AsGoodAsPair C k f (step C k f c a) d y
       by-mid = by-first C f mid high (held-pos hi mid-held) (held-pos hi high-held) (finer mid mid-held) pos
 
-      by-high : AsGoodAs C k f high d y → AsGoodAs C k f (step C k f c a) d y
+      by-high : AsGoodAsPair C k f high d y → AsGoodAsPair C k f (step C k f c a) d y
       by-high = by-second C f mid high (held-pos hi mid-held) (held-pos hi high-held) (finer mid mid-held) pos
 
-      by-old : AsGoodAs C k f a d y → AsGoodAs C k f (step C k f c a) d y
+      by-old : AsGoodAsPair C k f a d y → AsGoodAsPair C k f (step C k f c a) d y
       by-old h = by-mid (by-first C f a low (held-pos hi (more ha)) (held-pos hi low-held) (finer a (more ha)) pos h)
 
-      by-low : AsGoodAs C k f low d y → AsGoodAs C k f (step C k f c a) d y
+      by-low : AsGoodAsPair C k f low d y → AsGoodAsPair C k f (step C k f c a) d y
       by-low h = by-mid (by-second C f a low (held-pos hi (more ha)) (held-pos hi low-held) (finer a (more ha)) pos h)
 
-    new : (y : ℕ) → y ≤ 65_535 → AsGoodAs C k f (step C k f c a) c y
+    new : (y : ℕ) → y ≤ 65_535 → AsGoodAsPair C k f (step C k f c a) c y
     new y l = by (decLe (y + 1) (quotient C k f c))
       where
         pos : 0 < k * dividerOf c * (y + 1)
         pos = pair-pos c y (omega arith) hi
 
-        by : Dec (y + 1 ≤ quotient C k f c) → AsGoodAs C k f (step C k f c a) c y
+        by : Dec (y + 1 ≤ quotient C k f c) → AsGoodAsPair C k f (step C k f c a) c y
         by (yes h) =
             by-low c y pos
             (low-count C f (k * dividerOf c) (dividerOf c) (fit .ticks) (fit .some) (ticks .0) (y + 1) (omega arith) (omega arith) h)
@@ -169,9 +170,9 @@ module _ (C k f : ℕ) (fit : Fit C k f) where
     pub step-best : BestOf C k f i a → BestOf C k f c (step C k f c a)
     step-best g d y h l s = by (decLe d i)
       where
-        by : Dec (d ≤ i) → AsGoodAs C k f (step C k f c a) d y
+        by : Dec (d ≤ i) → AsGoodAsPair C k f (step C k f c a) d y
         by (yes t) = by-old d y (pair-pos d y h (omega arith)) (g d y h t s)
-        by (no t) = let e : c ≡ d = omega arith in subst (λ (x : ℕ). AsGoodAs C k f (step C k f c a) x y) e (new y s)
+        by (no t) = let e : c ≡ d = omega arith in subst (λ (x : ℕ). AsGoodAsPair C k f (step C k f c a) x y) e (new y s)
 
   pub scan-held : (i : ℕ) → i ≤ 7 → Held C k f i (scan C k f i)
   scan-held zero h =

@@ -1,5 +1,5 @@
--- Paper 01, "Rates" and the numbers of refusal 12 to 15, in the paper's order. A rule u has the numbers in which PWM and SPI differ;
--- a pair is a divider choice c and X. Assumes nothing.
+-- Paper 01, "Rates" and the numbers of refusal 12 to 15, in the paper's order. "PWM and SPI are asked by separate calls": a rule u has the
+-- numbers of one of them. A pair is a divider choice c and X. Assumes nothing.
 use mathlib.Core.Path.{_≡_}
 use mathlib.Core.Bool.{cond}
 use Prim.Native.Nat.{ℕ, _+_, _-_, _*_, _≤_, _<_}
@@ -22,11 +22,11 @@ spi = record { clock = 40_000_000; low = 40; high = 4_000_000; base = 2 }
 abbrev pub InRange : Rule → ℕ → Type 0
 InRange u f = (u .low ≤ f) × (f ≤ u .high)
 
--- the period P; "Divider choices 1 to 7 mean N = 1 to 64 as for CS, for SPI too"
+-- P, with "N as above": the divider of the choice, which is one rule for PWM and SPI
 abbrev pub period : Rule → ℕ → ℕ → ℕ
 period u c x = u .base * dividerOf c * (x + 1)
 
--- "X is 0 to 65,535"
+-- "X is 0 to 65,535", "Divider choices 1 to 7 mean N = 1 to 64 as for CS, for SPI too"
 pub record IsPair (c x : ℕ) : Type 0 where
   pub some : 1 ≤ c
   pub most : c ≤ 7
