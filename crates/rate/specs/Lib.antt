@@ -1,0 +1,5 @@
+-- The definitions that the contracts of `rate` cite, its theorems, and how the code computes.
+pub mod Rate
+pub mod Settled
+pub mod Sums
+pub mod Scan

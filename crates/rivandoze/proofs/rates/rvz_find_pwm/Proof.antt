@@ -1,0 +1,13 @@
+-- `rivandoze::rates::rvz_find_pwm` meets its contract. Assumes nothing.
+use borrow.Author.Needs.{needs}
+use Rattle.rivandoze.proofs.RateWords.{choice-fits, x-fits, found-word}
+use Rattle.rivandoze.proofs.rates.rvz_find_pwm.Statement.{statement}
+use Rattle.rivandoze.proofs.rates.rvz_find_pwm.Tie as tie
+
+pub rvz-find-pwm-spec : {M : Type 1} → statement M
+rvz-find-pwm-spec =
+    tie.close
+    (tie.spec
+    (λ c κs. search needs)
+    (λ c κs. (search choice-fits, search x-fits))
+    (λ c. search found-word))

@@ -1,0 +1,3 @@
+-- What the calls for C promise.
+pub mod Refusal
+pub mod RateWords

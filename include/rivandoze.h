@@ -1,0 +1,65 @@
+/* Rivandoze for C and C++: numbers and byte slices only.
+ *
+ * Every answer is one uint64_t. Its low byte is the refusal, RVZ_OK (0) if there is none; unless a call says otherwise, the rest is 0
+ * when it is refused. The calls keep no state, never fail in another way, and may be made from any thread. Link librivandoze.a. */
+#ifndef RIVANDOZE_H
+#define RIVANDOZE_H
+
+#include <stdint.h>
+
+#ifdef __cplusplus
+extern "C" {
+#endif
+
+/* The refusals of paper 01. 1 to 11 come from a replay, 12 to 15 from the rate calls. */
+enum rvz_refusal {
+    RVZ_OK = 0,                   /* Nothing is refused. */
+    RVZ_LOG_TOO_LONG = 1,         /* The log is longer than 32,768 bytes. */
+    RVZ_LOG_TOO_SHORT = 2,        /* The log is shorter than its 8-byte trailer. */
+    RVZ_WRONG_MARK = 3,           /* The trailer does not end in the mark 51 4D. */
+    RVZ_WRONG_EDITION = 4,        /* The trailer's edition is not 1. */
+    RVZ_WRONG_DISTANCE = 5,       /* The trailer's distance is no multiple of 16, or reaches back before the log. */
+    RVZ_OUTPUT_TOO_SHORT = 6,     /* The output has less than 8 bytes for each read. */
+    RVZ_NO_SUCH_RECORD = 7,       /* The record names no kind, block, channel, register or access, or a byte that must be 0 is not. */
+    RVZ_VALUE_OUT_OF_RANGE = 8,   /* The value is outside the range of its register or record. */
+    RVZ_NOT_ROUTED = 9,           /* The record writes to, or moves the pins of, a channel that is not routed. */
+    RVZ_WRONG_SELECT = 10,        /* The SELECT value is a combination that is not allowed. */
+    RVZ_WRONG_CONTROL = 11,       /* GO meets a control code that is not allowed. */
+    RVZ_RATE_OUT_OF_RANGE = 12,   /* The wanted rate is out of range. */
+    RVZ_TOLERANCE_TOO_LARGE = 13, /* The tolerance is above 1,000,000. */
+    RVZ_NO_PAIR = 14,             /* No pair is within the tolerance. */
+    RVZ_NO_SUCH_PAIR = 15         /* The divider choice is 0 or above 7, or X is above 65,535. */
+};
+
+/* The refusal of any answer, RVZ_OK (0) if none. */
+static inline unsigned rvz_refused(uint64_t answer) { return (unsigned)(answer & 0xFF); }
+
+/* ---- Rates ---- */
+
+/* The divider choice and X whose rate is nearest to `rate`, in hertz: PWM 40 to 40,000, SPI 40 to 4,000,000. `tolerance` is the largest
+ * error allowed, in millionths of `rate`, at most 1,000,000. Of equally near pairs the one with the shorter period is given, then the one
+ * with the smaller divider. Refusals: 12, 13, 14, tested in this order. Read the answer by rvz_choice and rvz_x. */
+uint64_t rvz_find_pwm(uint64_t rate, uint64_t tolerance);
+uint64_t rvz_find_spi(uint64_t rate, uint64_t tolerance);
+
+/* The divider choice, 1 to 7: the clock is divided by 1, 2, 4, .. 64. */
+static inline unsigned rvz_choice(uint64_t answer) { return (unsigned)(answer >> 8 & 0xFF); }
+
+/* X, 0 to 65,535. */
+static inline unsigned rvz_x(uint64_t answer) { return (unsigned)(answer >> 16 & 0xFFFF); }
+
+/* The rate that a divider choice and X give, as a fraction of hertz: rvz_clock(answer) / rvz_period(answer). Refusal: 15. */
+uint64_t rvz_rate_pwm(uint64_t choice, uint64_t x);
+uint64_t rvz_rate_spi(uint64_t choice, uint64_t x);
+
+/* The period P, in ticks of the clock. */
+static inline uint32_t rvz_period(uint64_t answer) { return (uint32_t)(answer >> 8 & 0xFFFFFF); }
+
+/* The clock's rate: 40,000,000. */
+static inline uint32_t rvz_clock(uint64_t answer) { return (uint32_t)(answer >> 32); }
+
+#ifdef __cplusplus
+}
+#endif
+
+#endif

@@ -1,0 +1,112 @@
+#!/usr/bin/env bash
+# The rates, from outside: the library for C against a second finder that tries every pair, the header in C and C++, and the program on
+# right and wrong arguments. SEED chooses the random requests.
+set -u
+cd "$(dirname "$0")/.." || exit 2
+. check/tools.sh
+work=$(mktemp -d)
+trap 'rm -rf "$work"' EXIT
+seed=${SEED:-$(date +%s)}
+
+# must NAME COMMAND..: one test, of the command's status, which ends the script where it fails.
+must() {
+    local name=$1
+    shift
+    if "$@" >"$work/out" 2>&1; then
+        echo "ok $name"
+    else
+        echo "FAIL $name"
+        tail -n 20 "$work/out" | sed 's/^/    /'
+        exit 1
+    fi
+}
+
+build() {
+    must 'rates: the library and the program build' rt_builds
+    must 'rates: the second finder builds' rustc -O --edition 2021 -o "$work/rates" check/rates/main.rs
+    must 'rates: the header is C99' $cc -std=c99 -O -Wall -Wextra -Wpedantic -Werror -Iinclude \
+        -o "$work/header" check/rates/header.c target/staticlib/librivandoze.a
+    must 'rates: the header is C++' g++ -Wall -Wextra -Wpedantic -Werror -fsyntax-only -Iinclude -x c++ check/rates/header.c
+    must 'rates: the answering program builds' $cc -std=c99 -O -Wall -Wextra -Werror -Iinclude \
+        -o "$work/answers" check/rates/answers.c target/staticlib/librivandoze.a
+}
+
+rt_builds() {
+    rt staticlib rivandoze && rt check rvz
+}
+
+# Every answer of the library against the second finder's; then against finders with a mistake, which have to be told apart.
+compare() {
+    echo "seed $seed"
+    "$work/rates" ask "$seed" >"$work/requests"
+    run64 "$work/answers" <"$work/requests" >"$work/given"
+    must "rates: $(wc -l <"$work/requests") requests answered as by trying every pair" \
+        "$work/rates" compare "$work/requests" "$work/given"
+    must 'rates: no whole rate in range is midway between two periods' "$work/rates" midway
+    local mistake
+    for mistake in rounds-period larger-divider strict-tolerance four-dividers; do
+        "$work/rates" wrong $mistake "$work/requests" "$work/given" >"$work/out" 2>&1
+        same "rates: the comparison sees a finder of the kind $mistake" 1 $?
+    done
+}
+
+header() {
+    same 'rates: the accessors of the header' "$(printf '0 1 5\n14 0 0\n0 40000000/12\n1 1')" "$(run64 "$work/header")"
+}
+
+# says WANTED ARGUMENT..: one test of the program.
+says() {
+    local wanted=$1
+    shift
+    same "rates: rvz $*" "$wanted" "$(run64 target/bin/rvz "$@" </dev/null)"
+}
+
+program() {
+    says 'choice 1 x 39999' pwm 1000 0
+    says 'choice 5 x 62499' pwm 40 0
+    says 'refused 12' pwm 39 0
+    says 'refused 12' pwm 40001 0
+    says 'refused 14' pwm 610 3
+    says 'choice 2 x 32786' pwm 610 4
+    says 'refused 13' pwm 610 1000001
+    says 'choice 1 x 4' spi 4000000 0
+    says 'choice 4 x 62499' spi 40 0
+    says 'refused 14' spi 3650000 86757
+    says 'choice 1 x 5' spi 3650000 86758
+    says 'refused 12' spi 18446744073709551615 18446744073709551615
+    says '40000000 40000' pwm-rate 1 39999
+    says '40000000 8388608' spi-rate 7 65535
+    says 'refused 15' pwm-rate 0 0
+    says 'refused 15' spi-rate 8 0
+    says 'refused 15' spi-rate 1 65536
+    says 'choice 1 x 39999' pwm 001000 0
+
+    local bad='is no decimal number from 0 to 18446744073709551615'
+    says "RATE $bad" pwm 18446744073709551616 0
+    says "RATE $bad" pwm '' 0
+    says "RATE $bad" spi +40 0
+    says "RATE $bad" spi -40 0
+    says "RATE $bad" spi 4e3 0
+    says "TOL $bad" pwm 1000 '0 '
+    says "TOL $bad" spi 1000 99999999999999999999
+    says "CHOICE $bad" pwm-rate one 0
+    says "X $bad" spi-rate 1 0x10
+    same 'rates: rvz pwm and a number of 5,000 digits' "RATE $bad" "$(run64 target/bin/rvz pwm "$(printf '%05000d' 40)" 0)"
+
+    local usage
+    usage=$(run64 target/bin/rvz </dev/null)
+    same 'rates: rvz alone gives the usage' 'usage: rvz pwm RATE TOL' "${usage:0:23}"
+    says "$usage" pwm
+    says "$usage" pwm 1000
+    says "$usage" pwm 1000 0 0
+    says "$usage" PWM 1000 0
+    says "$usage" '' 1000 0
+    says "$usage" pwm-rates 1 0
+    says "$usage" --help
+}
+
+build
+compare
+header
+program
+exit $failed
