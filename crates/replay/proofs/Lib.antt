@@ -1,0 +1,4 @@
+mod Output
+pub mod Turns
+pub mod Going
+mod Whole
