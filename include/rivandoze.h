@@ -5,6 +5,7 @@
 #ifndef RIVANDOZE_H
 #define RIVANDOZE_H
 
+#include <stddef.h>
 #include <stdint.h>
 
 #ifdef __cplusplus
@@ -33,6 +34,26 @@ enum rvz_refusal {
 
 /* The refusal of any answer, RVZ_OK (0) if none. */
 static inline unsigned rvz_refused(uint64_t answer) { return (unsigned)(answer & 0xFF); }
+
+/* ---- Replay ---- */
+
+/* Replays the log of `log_len` bytes at `log`. Each read of the log writes its reading, 8 bytes, least byte first, into `out`, which has
+ * room for `out_len` bytes, in log order; no other byte of `out` changes. The replay stops at the first refused record. Refusals 1 to 6
+ * apply no record and write nothing; 7 to 11 keep what the records before the refused one did, whose index is rvz_applied(answer).
+ * 16,384 bytes of output are enough for every log. `log` and `out` may not overlap, and neither may be NULL, even at length 0. */
+uint64_t rvz_replay(const uint8_t *log, size_t log_len, uint8_t *out, size_t out_len);
+
+/* How many records were applied, also when one was refused: 0 to 2,047. */
+static inline uint64_t rvz_applied(uint64_t answer) { return answer >> 8; }
+
+/* Reading number `index` of an output, 0 being the first. */
+static inline uint64_t rvz_reading(const uint8_t *out, size_t index)
+{
+    uint64_t value = 0;
+    int i;
+    for (i = 7; i >= 0; i--) value = value << 8 | out[8 * index + (size_t)i];
+    return value;
+}
 
 /* ---- Rates ---- */
 

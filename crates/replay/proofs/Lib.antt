@@ -2,3 +2,6 @@ mod Output
 pub mod Turns
 pub mod Going
 mod Whole
+pub mod Small
+mod Tally
+mod Stream

@@ -1,3 +1,4 @@
 -- What the calls for C promise.
 pub mod Refusal
 pub mod RateWords
+pub mod ReplayWord

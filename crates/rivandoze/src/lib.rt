@@ -1,2 +1,3 @@
 // What C calls, on numbers and byte slices: a file for each group of calls. `include/rivandoze.h` declares them.
 mod rates;
+mod replays;

@@ -1,5 +1,7 @@
-// Answers one question about rates, named by the arguments. It has no exit status to give, so all it has to say goes to standard output.
+// With no argument it replays the log on standard input; with arguments it answers one question about rates. It has no exit status to
+// give, so all it has to say goes to standard output.
 use decimal::Decimal;
+use libc::STDIN_FILENO;
 use libc::STDOUT_FILENO;
 use rate::Found;
 use rate::Rated;
@@ -28,8 +30,9 @@ fn say_refused(n: u64) {
 }
 
 fn say_usage() {
+    say(b"usage: rvz                      replays the log on standard input\n");
     say(
-        b"usage: rvz pwm RATE TOL         the pair for a PWM rate: 'choice C x X' or 'refused R'\n",
+        b"       rvz pwm RATE TOL         the pair for a PWM rate: 'choice C x X' or 'refused R'\n",
     );
     say(b"       rvz spi RATE TOL         the pair for an SPI rate\n");
     say(
@@ -127,8 +130,45 @@ fn answer_rate(is_spi: bool) {
     }
 }
 
+// A reading on a line of its own, where the output has it.
+fn say_reading(out: &[u8], i: usize) {
+    if i < 2048 {
+        if 8 * i + 8 <= out.len() {
+            say_number(wire::le64(out, 8 * i));
+            say(b"\n");
+        }
+    }
+}
+
+fn say_readings(out: &[u8], n: usize) {
+    let mut i: usize = 0;
+    while i < n {
+        say_reading(out, i);
+        i += 1;
+    }
+}
+
+// One byte more than a log may have, so that an over-long one shows.
+fn replay_input() {
+    let mut log = [0u8; 32769];
+    let n = io::read_full(STDIN_FILENO, &mut log);
+    let mut out = [0u8; 16384];
+    let stop = replay::replay(&log[..n], &mut out);
+    say_readings(&out, stop.readings);
+    say(b"applied ");
+    say_number(stop.applied as u64);
+    say(b" refused ");
+    say_number(stop.refused as u64);
+    say(b"\n");
+}
+
 fn main() {
-    if os::arg_count() != 4 {
+    let words = os::arg_count();
+    if words == 1 {
+        replay_input();
+        return;
+    }
+    if words != 4 {
         say_usage();
         return;
     }
