@@ -5,3 +5,6 @@ mod Whole
 pub mod Small
 mod Tally
 mod Stream
+mod Room
+mod Notes
+pub mod Proved
