@@ -11,16 +11,37 @@ need() {
 need gcc gcc
 need g++ g++
 need rustc rustc
+# cc compiles for x86-64, and runner holds the words that such a program is started by.
 if [ "$(uname -m)" = x86_64 ]; then
     cc=gcc
-    run64() { "$@"; }
+    runner=()
 else
     need x86_64-linux-gnu-gcc gcc-x86-64-linux-gnu
     need qemu-x86_64 qemu-user
     cc=x86_64-linux-gnu-gcc
     lib64=$(dirname "$($cc -print-file-name=libc.so.6)")
-    run64() { qemu-x86_64 "$lib64/ld-linux-x86-64.so.2" --library-path "$lib64" "$@"; }
+    runner=(qemu-x86_64 "$lib64/ld-linux-x86-64.so.2" --library-path "$lib64")
 fi
+
+run64() { "${runner[@]}" "$@"; }
+
+# must NAME COMMAND..: one test, of the command's status, which ends the script where it fails. What the command says goes to $work.
+must() {
+    local name=$1
+    shift
+    if "$@" >"$work/out" 2>&1; then
+        echo "ok $name"
+    else
+        echo "FAIL $name"
+        tail -n 20 "$work/out" | sed 's/^/    /'
+        exit 1
+    fi
+}
+
+# Both are there already where the gate has proved them.
+rt_builds() {
+    rt staticlib rivandoze && rt check rvz
+}
 
 # same NAME WANTED GOT: one test.
 same() {

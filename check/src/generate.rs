@@ -17,6 +17,8 @@ use maker::Maker;
 
 #[derive(Debug, Clone, PartialEq, Eq)]
 pub struct Settings {
+    /// The fewest records of a log.
+    pub least_records: usize,
     /// The most records of a log; a log has room for 2,047. A record that is refused may need
     /// up to seven more to lead up to it.
     pub most_records: usize,
@@ -31,6 +33,7 @@ pub struct Settings {
 impl Default for Settings {
     fn default() -> Self {
         Settings {
+            least_records: 1,
             most_records: RECORDS_MAX,
             most_ticks: 300,
             refused_percent: 25,
@@ -53,7 +56,8 @@ pub fn generate_with(seed: u64, settings: &Settings, fault: Fault) -> Vec<u8> {
 }
 
 fn log_with(mut rng: Rng, settings: &Settings, fault: Option<Fault>) -> Vec<u8> {
-    let wanted = length(&mut rng, settings.most_records.clamp(1, RECORDS_MAX));
+    let most = settings.most_records.clamp(1, RECORDS_MAX);
+    let wanted = length(&mut rng, most).max(settings.least_records.min(most));
     let mut maker = Maker::new(rng, settings.most_ticks);
     if let Some(fault) = fault {
         let latest = wanted.min(RECORDS_MAX - faults::MOST_RECORDS);
