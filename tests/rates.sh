@@ -77,8 +77,9 @@ program() {
     same 'rates: rvz pwm and a number of 5,000 digits' "RATE $bad" "$(run64 target/bin/rvz pwm "$(printf '%05000d' 40)" 0)"
 
     local usage
-    usage=$(run64 target/bin/rvz </dev/null)
-    same 'rates: rvz alone gives the usage' 'usage: rvz pwm RATE TOL' "${usage:0:23}"
+    usage=$(run64 target/bin/rvz help </dev/null)
+    same 'rates: the usage names each rate question' 'pwm pwm-rate spi spi-rate' \
+        "$(sed -n 's/^ *rvz \([a-z-]*\) .*/\1/p' <<<"$usage" | sort | xargs)"
     says "$usage" pwm
     says "$usage" pwm 1000
     says "$usage" pwm 1000 0 0
