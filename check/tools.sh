@@ -25,6 +25,24 @@ fi
 
 run64() { "${runner[@]}" "$@"; }
 
+# rust64 compiles Rust for x86-64. Elsewhere it is Debian's compiler, which has a standard library for that.
+need_rust64() {
+    [ "$(uname -m)" = x86_64 ] && return
+    [ -x /usr/bin/rustc ] && dpkg -s libstd-rust-dev:amd64 >/dev/null 2>&1 && return
+    { dpkg --add-architecture amd64 && apt-get update -qq && apt-get install -y -qq rustc libstd-rust-dev:amd64; } >/dev/null 2>&1
+    dpkg -s libstd-rust-dev:amd64 >/dev/null 2>&1 && return
+    echo "FAIL $0: libstd-rust-dev:amd64 cannot be installed"
+    exit 1
+}
+
+rust64() {
+    if [ "$(uname -m)" = x86_64 ]; then
+        rustc -C opt-level=3 -C codegen-units=1 --edition 2021 "$@"
+    else
+        /usr/bin/rustc --target x86_64-unknown-linux-gnu -C "linker=$cc" -C opt-level=3 -C codegen-units=1 --edition 2021 "$@"
+    fi
+}
+
 # must NAME COMMAND..: one test, of the command's status, which ends the script where it fails. What the command says goes to $work.
 must() {
     local name=$1

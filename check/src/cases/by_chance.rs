@@ -49,8 +49,12 @@ pub fn damaged(mut rng: Rng, size: Size) -> Requests {
         let mut log = short_log(&mut rng);
         let trailer = log.split_off(log.len() - TRAILER_LEN);
         if rng.chance(60) {
-            let change = rng.pick(&[flip_bits, change_bytes]);
-            log = [change(&log, &mut rng), trailer].concat();
+            let records = if rng.chance(50) {
+                flip_bits(&log, &mut rng)
+            } else {
+                change_bytes(&log, &mut rng)
+            };
+            log = [records, trailer].concat();
         } else {
             log = [log, trailer].concat();
             for _ in 0..rng.between(1, 3) {
