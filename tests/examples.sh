@@ -58,7 +58,33 @@ other_files() {
     same 'examples: scan without a file' "2 usage: scan FILE" "$? $(cat "$work/out")"
 }
 
+# The flags that pkg-config has for the files installed under a prefix.
+flags() {
+    PKG_CONFIG_PATH=$work/usr/lib/pkgconfig pkg-config "$@" rivandoze
+}
+
+build_installed() {
+    local words
+    words=$(flags --cflags --libs) && $cc "${strict[@]}" -o "$work/installed" examples/scan.c $words
+}
+
+installed() {
+    must 'examples: make install' make --no-print-directory install PREFIX="$work/usr"
+    same 'examples: what is installed' 'bin/rvz include/rivandoze.h lib/librivandoze.a lib/pkgconfig/rivandoze.pc' \
+        "$(cd "$work/usr" && find . -type f | sed 's|^\./||' | sort | xargs)"
+    must 'examples: scan.c builds against the installed files' build_installed
+    scans "$work/installed" 'examples: scan, installed, of turns' examples/logs/turns.log
+    scans "$work/installed" 'examples: scan, installed, of refused-9' examples/logs/refused-9.log
+    same 'examples: the installed program' $'1\napplied 5 refused 0' "$(run64 "$work/usr/bin/rvz" <examples/logs/whole.log)"
+
+    must 'examples: make install for a package' make --no-print-directory install DESTDIR="$work/stage" PREFIX=/usr
+    same 'examples: a package has the final prefix' 'prefix=/usr' "$(head -n 1 "$work/stage/usr/lib/pkgconfig/rivandoze.pc")"
+    must 'examples: make uninstall' make --no-print-directory uninstall PREFIX="$work/usr"
+    same 'examples: what is left' '' "$(find "$work/usr" -type f)"
+}
+
 build
 samples
 other_files
+installed
 exit $failed
