@@ -50,12 +50,12 @@ test_of_the_tests() {
 again() {
     "$programs/compare" short "$seed" "$work/saved" "$programs/stand-in" sign-flipped >"$work/out"
     local words
-    words=$(sed -n 's/^ *again: tests\/compare.sh rerun //p' "$work/out")
-    "$programs/compare" rerun $words "$programs/stand-in" sign-flipped >"$work/out" 2>&1
+    read -ra words < <(sed -n 's/^ *again: tests\/compare.sh rerun //p' "$work/out")
+    "$programs/compare" rerun "${words[@]}" "$programs/stand-in" sign-flipped >"$work/out" 2>&1
     same 'compare: a saved log fails again' 1 $?
-    "$programs/compare" rerun $words "$programs/stand-in" none >"$work/out" 2>&1
+    "$programs/compare" rerun "${words[@]}" "$programs/stand-in" none >"$work/out" 2>&1
     same 'compare: a saved log passes with a right driver' 0 $?
-    "$programs/rvz-check" from-text <"${words%%.log*}.txt" | cmp -s - "${words%% *}"
+    "$programs/rvz-check" from-text <"${words[0]%.log}.txt" | cmp -s - "${words[0]}"
     same 'compare: a saved log has its text beside it' 0 $?
 }
 
@@ -71,6 +71,15 @@ fences() {
     done
     WRONG=not "$programs/compare" few "$seed" "$work" "${runner[@]}" "$work/wrong" >"$work/out" 2>&1
     same 'compare: the same with nothing touched is let pass' 0 $?
+}
+
+# The rate calls: all of PWM and many of SPI, and that one wrong answer among them is seen.
+rates() {
+    must 'compare: the answering program builds' \
+        $cc -std=c99 -O2 -Wall -Wextra -Werror -Iinclude -o "$work/answers" check/rates/answers.c target/staticlib/librivandoze.a
+    "$programs/compare-rates" "$seed" "${runner[@]}" "$work/answers" || failed=1
+    "$programs/compare-rates" "$seed" bash -c '"$@" | sed "39000s/$/0/"' - "${runner[@]}" "$work/answers" >"$work/out" 2>&1
+    same 'compare: one wrong answer to a rate request is seen' "1 1" "$? $(grep -c ': wanted ' "$work/out")"
 }
 
 # The caller under the tools that watch memory. AddressSanitizer and valgrind cannot watch x86-64 code under emulation.
@@ -94,6 +103,7 @@ case ${1:-} in
     build
     test_of_the_tests
     against compare full "${runner[@]}" "$work/driver"
+    rates
     watched
     ;;
 seconds)

@@ -58,14 +58,11 @@ other_files() {
     same 'examples: scan without a file' "2 usage: scan FILE" "$? $(cat "$work/out")"
 }
 
-# The flags that pkg-config has for the files installed under a prefix.
-flags() {
-    PKG_CONFIG_PATH=$work/usr/lib/pkgconfig pkg-config "$@" rivandoze
-}
-
+# By the flags that pkg-config has for the files installed under the prefix, and by no others.
 build_installed() {
-    local words
-    words=$(flags --cflags --libs) && $cc "${strict[@]}" -o "$work/installed" examples/scan.c $words
+    local flags
+    read -ra flags < <(PKG_CONFIG_PATH=$work/usr/lib/pkgconfig pkg-config --cflags --libs rivandoze)
+    $cc "${strict[@]}" -o "$work/installed" examples/scan.c "${flags[@]}"
 }
 
 installed() {

@@ -4,7 +4,9 @@
 use rivandoze_check::cases::{Requests, Size, FAMILIES};
 use rivandoze_check::exchange::{Answer, Place, Request};
 use rivandoze_check::packed;
-use rivandoze_check::text::to_text;
+use rivandoze_check::reference::log::{records, READING_LEN};
+use rivandoze_check::reference::record::READ;
+use rivandoze_check::text::{record_to_text, to_text};
 use std::io::{self, BufReader, BufWriter};
 use std::process::{Child, ChildStdin, Command, ExitCode, Stdio};
 use std::sync::mpsc::{sync_channel, SyncSender};
@@ -256,15 +258,26 @@ impl Difference {
         if !got.log_kept {
             lines.push("    the log, or a byte beside it, was changed".into());
         }
-        let pairs = wanted.area.bytes.iter().zip(&got.area.bytes);
-        if let Some(index) = pairs.clone().position(|(wanted, got)| wanted != got) {
+        let mut pairs = wanted.area.bytes.iter().zip(&got.area.bytes);
+        if let Some(index) = pairs.position(|(wanted, got)| wanted != got) {
             let (at, len) = (wanted.area.from_out(index), self.request.out_len);
             let [wanted, got] = [&wanted.area.bytes, &got.area.bytes].map(|area| area[index]);
             lines.push(format!(
-                "    byte {at} of the output (0 to {len}, not included): wanted {wanted:02X}, got {got:02X}"
+                "    byte {at} of an output of {len}: wanted {wanted:02X}, got {got:02X}"
             ));
+            lines.extend(self.reading_at(at));
         }
         lines.join("\n")
+    }
+
+    /// The read whose reading has this byte of the output.
+    fn reading_at(&self, at: isize) -> Option<String> {
+        let reading = usize::try_from(at).ok()? / READING_LEN;
+        let mut reads = (0..)
+            .zip(records(&self.request.log).ok()?)
+            .filter(|(_, bytes)| bytes[0] == READ);
+        let (index, bytes): (usize, _) = reads.nth(reading)?;
+        Some(format!("    record {index}: {}", record_to_text(bytes)))
     }
 }
 

@@ -310,7 +310,7 @@ pub fn i2c_codes(mut rng: Rng, _: Size) -> Requests {
             records.push(Fields::write(I2C, 0, 1, 0b0011));
             records.push(Fields::write(I2C, 0, 2, 1));
         }
-        records.push(Fields::write(I2C, 0, 0, 2 * rng.below(128) | receive));
+        records.push(Fields::write(I2C, 0, 0, (rng.below(128) << 1) | receive));
         records.push(Fields::write(I2C, 0, 1, cntl));
         records.push(Fields::read(I2C, 0, 3));
         records.push(Fields::write(I2C, 0, 2, 1));

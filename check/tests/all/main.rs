@@ -1,3 +1,4 @@
+mod cases;
 mod common;
 mod encoder;
 mod errors_seen;

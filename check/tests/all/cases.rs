@@ -1,0 +1,103 @@
+//! The families of logs that the library is asked for, and the way it is asked.
+
+use rivandoze_check::cases::{Size, FAMILIES};
+use rivandoze_check::exchange::{Answer, Request, PLACES};
+use rivandoze_check::packed;
+use rivandoze_check::reference::log::{records, RECORDS_MAX};
+use rivandoze_check::reference::record::{Fields, Record};
+use std::collections::BTreeSet;
+
+fn short() -> impl Iterator<Item = Request> {
+    FAMILIES
+        .iter()
+        .flat_map(|family| family.requests(1, Size::Short))
+}
+
+fn word(request: &Request) -> u64 {
+    packed::replay(&request.log, &mut vec![0; request.out_len])
+}
+
+#[test]
+fn a_seed_gives_the_same_requests_again() {
+    for family in FAMILIES {
+        let some = |seed| -> Vec<Request> { family.requests(seed, Size::Short).take(50).collect() };
+        assert!(!some(3).is_empty());
+        assert_eq!(some(3), some(3), "{}", family.name);
+        assert_ne!(some(3), some(4), "{}", family.name);
+    }
+}
+
+#[test]
+fn every_refusal_and_every_place_comes_up() {
+    let mut met = BTreeSet::new();
+    for request in short() {
+        met.insert((word(&request) & 0xFF, request.place as u64));
+    }
+    for refusal in 0..=11 {
+        for place in PLACES {
+            assert!(
+                met.contains(&(refusal, place as u64)),
+                "{refusal} {place:?}"
+            );
+        }
+    }
+}
+
+#[test]
+fn full_logs_are_among_the_made_ones() {
+    let made = FAMILIES[0].requests(5, Size::Short);
+    let full = made.filter(|request| word(request) == (RECORDS_MAX as u64) << 8);
+    assert!(full.count() >= 100);
+}
+
+#[test]
+fn outputs_are_enough_to_the_byte_or_one_byte_short() {
+    let mut met = BTreeSet::new();
+    for request in short() {
+        if let Ok(all) = records(&request.log) {
+            let needed = 8 * all.filter(|record| record[0] == 2).count() as i64;
+            met.insert(request.out_len as i64 - needed);
+        }
+    }
+    for spare in -8..=17 {
+        assert!(met.contains(&spare), "{spare}");
+    }
+}
+
+/// The library may take a wait tick by tick.
+#[test]
+fn no_wait_is_endless() {
+    for request in short() {
+        for bytes in records(&request.log).into_iter().flatten() {
+            if let Ok(Record::Ticks(value)) = Fields::from_bytes(bytes).decode() {
+                assert!(value <= 70_000 || value > u64::from(u32::MAX));
+            }
+        }
+    }
+}
+
+#[test]
+fn requests_and_answers_come_through() {
+    let mut pipe = Vec::new();
+    let sent: Vec<Request> = FAMILIES[1].requests(6, Size::Short).take(40).collect();
+    for request in &sent {
+        request.write_to(&mut pipe).expect("a vector takes all");
+    }
+    let mut rest = pipe.as_slice();
+    for request in sent {
+        let taken = Request::read_from(&mut rest).expect("a whole request");
+        assert_eq!(taken.as_ref(), Some(&request));
+        let answer = Answer {
+            word: 0x1234_5608,
+            log_kept: request.out_len % 2 == 0,
+            area: request.area(),
+        };
+        let mut pipe = Vec::new();
+        answer.write_to(&mut pipe).expect("a vector takes all");
+        let back = Answer::read_from(&mut pipe.as_slice(), &request);
+        assert_eq!(back.expect("a whole answer"), answer);
+    }
+    assert_eq!(Request::read_from(&mut rest).expect("the end"), None);
+    let half = &pipe[..31];
+    assert!(Request::read_from(&mut &*half).is_err());
+}
