@@ -11,16 +11,60 @@ need() {
 need gcc gcc
 need g++ g++
 need rustc rustc
+# cc compiles for x86-64, and runner holds the words that such a program is started by.
 if [ "$(uname -m)" = x86_64 ]; then
     cc=gcc
-    run64() { "$@"; }
+    runner=()
 else
     need x86_64-linux-gnu-gcc gcc-x86-64-linux-gnu
     need qemu-x86_64 qemu-user
     cc=x86_64-linux-gnu-gcc
     lib64=$(dirname "$($cc -print-file-name=libc.so.6)")
-    run64() { qemu-x86_64 "$lib64/ld-linux-x86-64.so.2" --library-path "$lib64" "$@"; }
+    runner=(qemu-x86_64 "$lib64/ld-linux-x86-64.so.2" --library-path "$lib64")
 fi
+
+run64() { "${runner[@]}" "$@"; }
+
+# rust64 compiles Rust for x86-64. Elsewhere it is Debian's compiler, which has a standard library for that.
+need_rust64() {
+    [ "$(uname -m)" = x86_64 ] && return
+    [ -x /usr/bin/rustc ] && dpkg -s libstd-rust-dev:amd64 >/dev/null 2>&1 && return
+    { dpkg --add-architecture amd64 && apt-get update -qq && apt-get install -y -qq rustc libstd-rust-dev:amd64; } >/dev/null 2>&1
+    dpkg -s libstd-rust-dev:amd64 >/dev/null 2>&1 && return
+    echo "FAIL $0: libstd-rust-dev:amd64 cannot be installed"
+    exit 1
+}
+
+rust64() {
+    if [ "$(uname -m)" = x86_64 ]; then
+        rustc -C opt-level=3 -C codegen-units=1 --edition 2021 "$@"
+    else
+        /usr/bin/rustc --target x86_64-unknown-linux-gnu -C "linker=$cc" -C opt-level=3 -C codegen-units=1 --edition 2021 "$@"
+    fi
+}
+
+# must NAME COMMAND..: one test, of the command's status, which ends the script where it fails. What the command says goes to $work.
+must() {
+    local name=$1
+    shift
+    if "$@" >"$work/out" 2>&1; then
+        echo "ok $name"
+    else
+        echo "FAIL $name"
+        tail -n 20 "$work/out" | sed 's/^/    /'
+        exit 1
+    fi
+}
+
+# The library for C and the program, unless both are newer than every source.
+rt_builds() {
+    local library=target/staticlib/librivandoze.a program=target/bin/rvz
+    if [ -e "$library" ] && [ -e "$program" ] &&
+        [ -z "$(find crates crates.txt \( -newer "$library" -o -newer "$program" \) -print -quit)" ]; then
+        return
+    fi
+    rt staticlib rivandoze && rt check rvz && touch "$library" "$program"
+}
 
 # same NAME WANTED GOT: one test.
 same() {

@@ -8,19 +8,6 @@ work=$(mktemp -d)
 trap 'rm -rf "$work"' EXIT
 seed=${SEED:-$(date +%s)}
 
-# must NAME COMMAND..: one test, of the command's status, which ends the script where it fails.
-must() {
-    local name=$1
-    shift
-    if "$@" >"$work/out" 2>&1; then
-        echo "ok $name"
-    else
-        echo "FAIL $name"
-        tail -n 20 "$work/out" | sed 's/^/    /'
-        exit 1
-    fi
-}
-
 build() {
     must 'rates: the library and the program build' rt_builds
     must 'rates: the second finder builds' rustc -O --edition 2021 -o "$work/rates" check/rates/main.rs
@@ -29,10 +16,6 @@ build() {
     must 'rates: the header is C++' g++ -Wall -Wextra -Wpedantic -Werror -fsyntax-only -Iinclude -x c++ check/rates/header.c
     must 'rates: the answering program builds' $cc -std=c99 -O -Wall -Wextra -Werror -Iinclude \
         -o "$work/answers" check/rates/answers.c target/staticlib/librivandoze.a
-}
-
-rt_builds() {
-    rt staticlib rivandoze && rt check rvz
 }
 
 # Every answer of the library against the second finder's; then against finders with a mistake, which have to be told apart.
@@ -94,8 +77,9 @@ program() {
     same 'rates: rvz pwm and a number of 5,000 digits' "RATE $bad" "$(run64 target/bin/rvz pwm "$(printf '%05000d' 40)" 0)"
 
     local usage
-    usage=$(run64 target/bin/rvz </dev/null)
-    same 'rates: rvz alone gives the usage' 'usage: rvz pwm RATE TOL' "${usage:0:23}"
+    usage=$(run64 target/bin/rvz help </dev/null)
+    same 'rates: the usage names each rate question' 'pwm pwm-rate spi spi-rate' \
+        "$(sed -n 's/^ *rvz \([a-z-]*\) .*/\1/p' <<<"$usage" | sort | xargs)"
     says "$usage" pwm
     says "$usage" pwm 1000
     says "$usage" pwm 1000 0 0

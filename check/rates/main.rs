@@ -146,7 +146,7 @@ impl Random {
 fn least_tolerance(base: u128, f: u64) -> u64 {
     let pair = best(base, f as u128, MILLION, Mistake::None).expect("a pair within the whole rate");
     let whole = f as u128 * pair.p;
-    (MILLION * pair.miss).div_ceil(whole) as u64
+    ((MILLION * pair.miss + whole - 1) / whole) as u64
 }
 
 fn ask_find(kind: &str, base: u128, high: u64, random: &mut Random) {

@@ -1,0 +1,30 @@
+/* Between the driver and the library: does what the library does and then touches one byte that it may not, as WRONG in the environment
+ * says. The driver's fences, guard bytes and copy of the log have to show it. */
+#include <stddef.h>
+#include <stdint.h>
+#include <stdlib.h>
+#include <string.h>
+
+uint64_t __real_rvz_replay(const uint8_t *log, size_t log_len, uint8_t *out, size_t out_len);
+uint64_t __wrap_rvz_replay(const uint8_t *log, size_t log_len, uint8_t *out, size_t out_len);
+
+static void look(const uint8_t *at) {
+    volatile uint8_t seen = *(const volatile uint8_t *)at;
+    (void)seen;
+}
+
+static void change(uint8_t *at) { *at ^= 1; }
+
+uint64_t __wrap_rvz_replay(const uint8_t *log, size_t log_len, uint8_t *out, size_t out_len) {
+    uint64_t answer = __real_rvz_replay(log, log_len, out, out_len);
+    const char *wrong = getenv("WRONG");
+    if (strcmp(wrong, "reads-before-log") == 0) look(log - 1);
+    if (strcmp(wrong, "reads-behind-log") == 0) look(log + log_len);
+    if (strcmp(wrong, "reads-before-output") == 0) look(out - 1);
+    if (strcmp(wrong, "reads-behind-output") == 0) look(out + out_len);
+    if (strcmp(wrong, "writes-log") == 0 && log_len > 0) change((uint8_t *)log);
+    if (strcmp(wrong, "writes-before-output") == 0) change(out - 1);
+    if (strcmp(wrong, "writes-behind-output") == 0) change(out + out_len);
+    if (strcmp(wrong, "writes-output") == 0 && out_len > 0) change(out + out_len - 1);
+    return answer;
+}

@@ -1,0 +1,295 @@
+//! Compares a driver, which replays by the library, with the reference: every word, and every byte of
+//! the output and of what lies around it.
+
+use rivandoze_check::cases::{Requests, Size, FAMILIES};
+use rivandoze_check::exchange::{Answer, Place, Request};
+use rivandoze_check::packed;
+use rivandoze_check::text::to_text;
+use std::io::{self, BufReader, BufWriter};
+use std::process::{Child, ChildStdin, Command, ExitCode, Stdio};
+use std::sync::mpsc::{sync_channel, SyncSender};
+use std::thread;
+use std::time::{Duration, Instant};
+use std::{fs, path::Path};
+
+const USAGE: &str = "\
+compare full SEED DIR DRIVER..             every family of logs
+compare short SEED DIR DRIVER..            fewer of them, up to the first difference
+compare few SEED DIR DRIVER..              some hundred logs by chance, for a slow driver
+compare seconds N SEED DIR DRIVER..        logs by chance, for so many seconds
+compare rerun FILE OUT PATTERN PLACE DRIVER..
+                                           one log, with what was lent to it
+A log that is answered otherwise than by the reference is written to DIR.
+";
+
+/// How many requests may be under way.
+const AHEAD: usize = 64;
+/// How many logs of each family are a few.
+const FEW: usize = 80;
+
+fn main() -> ExitCode {
+    let words: Vec<String> = std::env::args().skip(1).collect();
+    match run(&words) {
+        Ok(true) => ExitCode::SUCCESS,
+        Ok(false) => ExitCode::from(1),
+        Err(message) => {
+            eprintln!("{}", message.trim_end());
+            ExitCode::from(2)
+        }
+    }
+}
+
+/// Whether all was as by the reference.
+fn run(words: &[String]) -> Result<bool, String> {
+    match words.first().map(String::as_str) {
+        Some("full") => full(&words[1..]),
+        Some("short") => short(&words[1..]),
+        Some("few") => few(&words[1..]),
+        Some("seconds") => for_seconds(&words[1..]),
+        Some("rerun") => rerun(&words[1..]),
+        _ => Err(USAGE.into()),
+    }
+}
+
+fn full(words: &[String]) -> Result<bool, String> {
+    let against = Against::from_words(words)?;
+    let mut good = true;
+    for family in FAMILIES {
+        good &= against.compare(family.name, family.requests(against.seed, Size::Full))?;
+    }
+    Ok(good)
+}
+
+fn short(words: &[String]) -> Result<bool, String> {
+    let against = Against::from_words(words)?;
+    for family in FAMILIES {
+        if !against.compare(family.name, family.requests(against.seed, Size::Short))? {
+            return Ok(false);
+        }
+    }
+    Ok(true)
+}
+
+fn few(words: &[String]) -> Result<bool, String> {
+    let against = Against::from_words(words)?;
+    let mut good = true;
+    for family in FAMILIES.iter().filter(|family| family.by_chance) {
+        let requests = family.requests(against.seed, Size::Short).take(FEW);
+        good &= against.compare(family.name, Box::new(requests))?;
+    }
+    Ok(good)
+}
+
+fn for_seconds(words: &[String]) -> Result<bool, String> {
+    let (seconds, words) = words.split_first().ok_or(USAGE)?;
+    let end = Instant::now() + Duration::from_secs(number(seconds)?);
+    let mut against = Against::from_words(words)?;
+    while Instant::now() < end {
+        for family in FAMILIES.iter().filter(|family| family.by_chance) {
+            if !against.compare(family.name, family.requests(against.seed, Size::Short))? {
+                return Ok(false);
+            }
+        }
+        against.seed = against.seed.wrapping_add(1);
+    }
+    Ok(true)
+}
+
+/// Whom to ask, by which seed, and where to write what was answered otherwise.
+struct Against<'a> {
+    seed: u64,
+    dir: &'a str,
+    driver: &'a [String],
+}
+
+impl<'a> Against<'a> {
+    fn from_words(words: &'a [String]) -> Result<Self, String> {
+        match words {
+            [seed, dir, driver @ ..] if !driver.is_empty() => Ok(Against {
+                seed: number(seed)?,
+                dir,
+                driver,
+            }),
+            _ => Err(USAGE.into()),
+        }
+    }
+
+    /// One test, told by a line.
+    fn compare(&self, name: &str, requests: Requests) -> Result<bool, String> {
+        let (start, seed) = (Instant::now(), self.seed);
+        match ask(requests, self.driver)? {
+            Outcome::Same { logs, applied } => {
+                let seconds = start.elapsed().as_secs_f64();
+                println!(
+                    "ok compare: {name}, seed {seed}: {logs} logs, {applied} records applied, {seconds:.1} s"
+                );
+                Ok(true)
+            }
+            Outcome::Differs(difference) => {
+                let index = difference.index;
+                println!("FAIL compare: {name}, seed {seed}, log {index}");
+                println!("{}", difference.told());
+                let file = format!("{}-{seed}-{index}", name.replace(' ', "-"));
+                save(&Path::new(self.dir).join(file), &difference.request)?;
+                Ok(false)
+            }
+        }
+    }
+}
+
+fn rerun(words: &[String]) -> Result<bool, String> {
+    let (file, numbers, driver) = match words {
+        [file, out_len, pattern, place, driver @ ..] if !driver.is_empty() => (
+            file,
+            [number(out_len)?, number(pattern)?, number(place)?],
+            driver,
+        ),
+        _ => return Err(USAGE.into()),
+    };
+    let [out_len, pattern, place] = numbers;
+    let request = Request {
+        log: fs::read(file).map_err(|error| format!("{file}: {error}"))?,
+        out_len: out_len as usize,
+        pattern,
+        place: Place::from_number(place).ok_or("a place is 0, 1, 2 or 3")?,
+    };
+    match ask(Box::new(std::iter::once(request)), driver)? {
+        Outcome::Same { applied, .. } => println!("the same, {applied} records applied"),
+        Outcome::Differs(difference) => {
+            println!("{}", difference.told());
+            return Ok(false);
+        }
+    }
+    Ok(true)
+}
+
+enum Outcome {
+    Same { logs: u64, applied: u64 },
+    Differs(Difference),
+}
+
+struct Difference {
+    index: u64,
+    request: Request,
+    wanted: Answer,
+    /// Nothing if the driver ended instead.
+    got: Option<Answer>,
+}
+
+/// Asks a driver of its own, up to the first difference.
+fn ask(requests: Requests, driver: &[String]) -> Result<Outcome, String> {
+    let mut child = started(driver)?;
+    let stdin = child.stdin.take().expect("a pipe was asked for");
+    let mut stdout = BufReader::new(child.stdout.take().expect("a pipe was asked for"));
+    let (sender, receiver) = sync_channel(AHEAD);
+    let asking = thread::spawn(move || send_all(requests, stdin, &sender));
+    let mut outcome = (0, 0);
+    for request in receiver {
+        let (index, applied) = outcome;
+        let wanted = reference(&request);
+        let got = Answer::read_from(&mut stdout, &request).ok();
+        if got.as_ref() != Some(&wanted) {
+            let _ = child.kill();
+            let _ = child.wait();
+            return Ok(Outcome::Differs(Difference {
+                index,
+                request,
+                wanted,
+                got,
+            }));
+        }
+        outcome = (index + 1, applied + (wanted.word >> 8));
+    }
+    asking
+        .join()
+        .map_err(|_| "the requests could not be made")?;
+    let status = child.wait().map_err(|error| error.to_string())?;
+    if !status.success() {
+        return Err(format!("the driver ended with {status}"));
+    }
+    let (logs, applied) = outcome;
+    Ok(Outcome::Same { logs, applied })
+}
+
+fn started(driver: &[String]) -> Result<Child, String> {
+    Command::new(&driver[0])
+        .args(&driver[1..])
+        .stdin(Stdio::piped())
+        .stdout(Stdio::piped())
+        .spawn()
+        .map_err(|error| format!("{}: {error}", driver[0]))
+}
+
+/// Ends early where nobody takes the requests any more: the other side tells of it.
+fn send_all(requests: Requests, stdin: ChildStdin, sender: &SyncSender<Request>) {
+    let mut stdin = BufWriter::new(stdin);
+    for request in requests {
+        let sent: io::Result<()> = request.write_to(&mut stdin);
+        if sender.send(request).is_err() || sent.is_err() {
+            return;
+        }
+    }
+}
+
+fn reference(request: &Request) -> Answer {
+    let mut area = request.area();
+    let word = packed::replay(&request.log, area.out());
+    Answer {
+        word,
+        log_kept: true,
+        area,
+    }
+}
+
+impl Difference {
+    fn told(&self) -> String {
+        let got = match &self.got {
+            Some(got) => got,
+            None => return "    the driver ended without an answer".into(),
+        };
+        let wanted = &self.wanted;
+        let mut lines = Vec::new();
+        if got.word != wanted.word {
+            lines.push(format!("    wanted {}", word(wanted.word)));
+            lines.push(format!("    got    {}", word(got.word)));
+        }
+        if !got.log_kept {
+            lines.push("    the log, or a byte beside it, was changed".into());
+        }
+        let pairs = wanted.area.bytes.iter().zip(&got.area.bytes);
+        if let Some(index) = pairs.clone().position(|(wanted, got)| wanted != got) {
+            let (at, len) = (wanted.area.from_out(index), self.request.out_len);
+            let [wanted, got] = [&wanted.area.bytes, &got.area.bytes].map(|area| area[index]);
+            lines.push(format!(
+                "    byte {at} of the output (0 to {len}, not included): wanted {wanted:02X}, got {got:02X}"
+            ));
+        }
+        lines.join("\n")
+    }
+}
+
+fn word(word: u64) -> String {
+    format!("applied {} refused {}", word >> 8, word & 0xFF)
+}
+
+/// The log and its text, side by side, and how to ask for it again.
+fn save(stem: &Path, request: &Request) -> Result<(), String> {
+    let log = stem.with_extension("log");
+    let lent = format!(
+        "{} {} {}",
+        request.out_len, request.pattern, request.place as u64
+    );
+    let command = format!("tests/compare.sh rerun {} {lent}", log.display());
+    let text = format!("# {command}\n{}", to_text(&request.log));
+    let written = fs::create_dir_all(stem.parent().unwrap_or(stem))
+        .and_then(|()| fs::write(&log, &request.log))
+        .and_then(|()| fs::write(stem.with_extension("txt"), text));
+    written.map_err(|error| format!("{}: {error}", stem.display()))?;
+    println!("    again: {command}");
+    Ok(())
+}
+
+fn number(word: &str) -> Result<u64, String> {
+    word.parse()
+        .map_err(|_| format!("`{word}` is not a number\n{USAGE}"))
+}

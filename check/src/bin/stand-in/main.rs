@@ -1,0 +1,69 @@
+//! A driver that replays by the reference with one mistake, or with none: what the comparison must
+//! see, and what it must not.
+//!
+//! `stand-in list` names the mistakes, `stand-in MISTAKE` makes one, `stand-in none` makes none.
+
+mod mistakes;
+mod replay;
+
+use mistakes::{Mistake, MISTAKES};
+use rivandoze_check::exchange::{Answer, Request};
+use std::io;
+use std::process::ExitCode;
+
+fn main() -> ExitCode {
+    let name = std::env::args().nth(1).unwrap_or_default();
+    if name == "list" {
+        for (name, _) in MISTAKES {
+            println!("{name}");
+        }
+        return ExitCode::SUCCESS;
+    }
+    let mistake = MISTAKES.iter().find(|(known, _)| *known == name);
+    let mistake = match mistake {
+        Some((_, mistake)) => Some(*mistake),
+        None if name == "none" => None,
+        None => {
+            eprintln!("no such mistake: {name}");
+            return ExitCode::from(2);
+        }
+    };
+    match answer_all(mistake) {
+        Ok(()) => ExitCode::SUCCESS,
+        Err(error) => {
+            eprintln!("stand-in: {error}");
+            ExitCode::from(2)
+        }
+    }
+}
+
+fn answer_all(mistake: Option<Mistake>) -> io::Result<()> {
+    let mut stdin = io::stdin().lock();
+    let mut stdout = io::BufWriter::new(io::stdout().lock());
+    while let Some(request) = Request::read_from(&mut stdin)? {
+        answer(&request, mistake).write_to(&mut stdout)?;
+    }
+    Ok(())
+}
+
+fn answer(request: &Request, mistake: Option<Mistake>) -> Answer {
+    let mut area = request.area();
+    let word = replay::replay(mistake, &request.log, area.out());
+    let last = area.bytes.len();
+    match mistake {
+        Some(Mistake::ByteBehindOutput) if area.from_out(last) > area.out().len() as isize => {
+            let behind = last - rivandoze_check::exchange::GUARD_LEN;
+            area.bytes[behind] ^= 1;
+        }
+        Some(Mistake::ByteBeforeOutput) if area.from_out(0) < 0 => {
+            let before = rivandoze_check::exchange::GUARD_LEN - 1;
+            area.bytes[before] ^= 1;
+        }
+        _ => {}
+    }
+    Answer {
+        word,
+        log_kept: mistake != Some(Mistake::LogChanged) || request.log.is_empty(),
+        area,
+    }
+}

@@ -1,0 +1,111 @@
+//! What the library is asked in a comparison: families of logs, each with a name of its own.
+//!
+//! A seed and a size give the same requests on every machine.
+
+mod by_chance;
+mod in_order;
+
+use crate::exchange::{Request, PLACES};
+use crate::generate::Rng;
+use crate::reference::log::{records, READING_LEN, RECORDS_MAX};
+use crate::reference::record::READ;
+
+/// How many requests a family makes, where it could make any number.
+#[derive(Debug, Clone, Copy, PartialEq, Eq)]
+pub enum Size {
+    /// Enough to tell a library with a mistake from a right one.
+    Short,
+    /// As the gate wants it.
+    Full,
+}
+
+impl Size {
+    fn of(self, short: u64, full: u64) -> u64 {
+        match self {
+            Size::Short => short,
+            Size::Full => full,
+        }
+    }
+}
+
+pub type Requests = Box<dyn Iterator<Item = Request> + Send>;
+
+#[derive(Clone, Copy)]
+pub struct Family {
+    pub name: &'static str,
+    /// Whether another seed makes other logs, so that a longer run is worth its time.
+    pub by_chance: bool,
+    make: fn(Rng, Size) -> Requests,
+}
+
+impl Family {
+    pub fn requests(&self, seed: u64, size: Size) -> Requests {
+        let own = self.name.bytes().fold(seed, |sum, byte| {
+            sum.wrapping_mul(31).wrapping_add(byte.into())
+        });
+        (self.make)(Rng::new(own), size)
+    }
+}
+
+macro_rules! family {
+    ($name:literal, $by_chance:literal, $make:expr) => {
+        Family {
+            name: $name,
+            by_chance: $by_chance,
+            make: $make,
+        }
+    };
+}
+
+pub const FAMILIES: &[Family] = &[
+    family!("generated logs", true, by_chance::generated),
+    family!("damaged logs", true, by_chance::damaged),
+    family!("random records", true, by_chance::random_records),
+    family!(
+        "random bytes around a trailer",
+        true,
+        by_chance::random_bytes
+    ),
+    family!("random SELECT values", true, by_chance::random_selects),
+    family!("every truncation", false, in_order::truncations),
+    family!("lengths", false, in_order::lengths),
+    family!("every distance", false, in_order::distances),
+    family!("every edition", false, in_order::editions),
+    family!("every mark", false, in_order::marks),
+    family!("outputs of every length", false, in_order::outputs),
+    family!("every access", false, in_order::accesses),
+    family!("every five pins", false, in_order::pins),
+    family!("every small PWM", false, in_order::pwms),
+    family!("every I2C code", false, in_order::i2c_codes),
+    family!("every pair of pin functions", false, in_order::selects),
+];
+
+/// A log lent with an output of the given length, somewhere.
+fn lent(log: Vec<u8>, out_len: usize, rng: &mut Rng) -> Request {
+    Request {
+        log,
+        out_len,
+        pattern: rng.draw(),
+        place: rng.pick(&PLACES),
+    }
+}
+
+/// A log lent with an output that is mostly long enough.
+fn lent_well(log: Vec<u8>, rng: &mut Rng) -> Request {
+    let needed = needed(&log);
+    let out_len = match rng.below(20) {
+        0 => needed.saturating_sub(1 + rng.below(8) as usize),
+        1 => rng.below(needed as u64 + 1) as usize,
+        2 => RECORDS_MAX * READING_LEN,
+        3..=6 => needed + rng.below(41) as usize,
+        _ => needed,
+    };
+    lent(log, out_len, rng)
+}
+
+/// What refusal 6 asks of the output; little where it does not come to that.
+fn needed(log: &[u8]) -> usize {
+    records(log).map_or(READING_LEN, |all| {
+        READING_LEN * all.filter(|record| record[0] == READ).count()
+    })
+}

@@ -1,0 +1,342 @@
+//! Families that go through everything of a kind.
+
+use super::{lent, lent_well, needed, Requests, Size};
+use crate::exchange::{Request, PLACES};
+use crate::generate::{generate, Rng, Settings};
+use crate::reference::log::{build, Trailer, EDITION, LOG_MAX, MARK, RECORDS_MAX, TRAILER_LEN};
+use crate::reference::record::{Fields, ENCODER, I2C, PWM, RECORD_LEN, SELECT};
+
+const ALL_ENCODERS: u64 = 0xAA_AAAA_AAAA;
+const ALL_PWMS: u64 = 0x55_5555_5555;
+const I2C_PINS: u64 = 0xF << 28;
+
+fn log_of(records: &[Fields]) -> Vec<u8> {
+    let bytes: Vec<_> = records.iter().map(|fields| fields.to_bytes()).collect();
+    build(&[], &bytes)
+}
+
+fn made_log(most_records: usize, rng: &mut Rng) -> Vec<u8> {
+    let settings = Settings {
+        most_records,
+        ..Settings::default()
+    };
+    generate(rng.draw(), &settings)
+}
+
+/// Cut off at every byte, from the end and from the beginning.
+pub fn truncations(mut rng: Rng, size: Size) -> Requests {
+    let logs: Vec<Vec<u8>> = (0..size.of(3, 12))
+        .map(|_| made_log(40, &mut rng))
+        .collect();
+    Box::new(logs.into_iter().flat_map(move |log| {
+        let cuts: Vec<Request> = (0..=log.len())
+            .flat_map(|at| [log[..at].to_vec(), log[at..].to_vec()])
+            .map(|cut| lent(cut, needed(&log), &mut rng))
+            .collect();
+        cuts
+    }))
+}
+
+/// Every length up to 64, and around the longest, in every place.
+pub fn lengths(mut rng: Rng, _: Size) -> Requests {
+    let lengths = (0..=64).chain(LOG_MAX - 16..=LOG_MAX + 16);
+    Box::new(lengths.flat_map(move |len| {
+        let logs = logs_of_length(len, &mut rng);
+        let pairs = logs
+            .into_iter()
+            .flat_map(|log| PLACES.map(|place| (log.clone(), place)));
+        let requests: Vec<Request> = pairs
+            .map(|(log, place)| Request {
+                place,
+                ..lent(log, RECORDS_MAX * 8, &mut rng)
+            })
+            .collect();
+        requests
+    }))
+}
+
+/// Zeros, anything, and good and bad trailers behind reads.
+fn logs_of_length(len: usize, rng: &mut Rng) -> Vec<Vec<u8>> {
+    let mut logs = vec![vec![0; len], (0..len).map(|_| rng.draw() as u8).collect()];
+    let in_front = match len.checked_sub(TRAILER_LEN) {
+        Some(in_front) => in_front,
+        None => return logs,
+    };
+    let notes_len = in_front % RECORD_LEN;
+    let mut front = vec![0xEE; notes_len];
+    for _ in 0..in_front / RECORD_LEN {
+        front.extend_from_slice(&Fields::read(SELECT, 0, 0).to_bytes());
+    }
+    let whole = in_front - notes_len;
+    for distance in [0, whole, whole + RECORD_LEN, in_front, len] {
+        let trailer = Trailer::of(distance as u32).to_bytes();
+        logs.push([front.as_slice(), &trailer].concat());
+    }
+    logs
+}
+
+fn with_trailer(log: &[u8], trailer: Trailer) -> Vec<u8> {
+    [&log[..log.len() - TRAILER_LEN], &trailer.to_bytes()].concat()
+}
+
+/// Notes, then a few records with two reads.
+fn small_log() -> Vec<u8> {
+    let records = [
+        Fields::write(SELECT, 0, 0, ALL_ENCODERS),
+        Fields::read(SELECT, 0, 0),
+        Fields::ticks(1),
+        Fields::read(ENCODER, 3, 2),
+    ];
+    build(&[2; 21], &records.map(Fields::to_bytes))
+}
+
+/// Every distance up to beyond the log, and every one that is a few bits away from a right one.
+pub fn distances(mut rng: Rng, _: Size) -> Requests {
+    let log = small_log();
+    let len = log.len() as u32;
+    let right = [0, 16, 64, 80].into_iter();
+    let flipped = right.flat_map(|right| {
+        (0..32).flat_map(move |one| (0..32).map(move |other| right ^ 1 << one ^ 1 << other))
+    });
+    let flipped: Vec<u32> = flipped.collect();
+    let distances = (0..=len + 64)
+        .chain(flipped)
+        .chain(u32::MAX - 40..=u32::MAX);
+    Box::new(distances.map(move |distance| {
+        let near = with_trailer(&log, Trailer::of(distance));
+        lent_well(near, &mut rng)
+    }))
+}
+
+/// Every edition; with some of them the distance is wrong too.
+pub fn editions(mut rng: Rng, size: Size) -> Requests {
+    let log = small_log();
+    Box::new(numbers(size).map(move |edition| {
+        let distance = rng.pick(&[64, 64, 65]);
+        let near = Trailer {
+            edition,
+            ..Trailer::of(if edition == EDITION { 64 } else { distance })
+        };
+        lent(with_trailer(&log, near), 16, &mut rng)
+    }))
+}
+
+/// Every mark; with some of them the edition and the distance are wrong too.
+pub fn marks(mut rng: Rng, size: Size) -> Requests {
+    let log = small_log();
+    Box::new(numbers(size).map(move |mark| {
+        let near = Trailer {
+            distance: rng.pick(&[64, 64, 65]),
+            edition: rng.pick(&[1, 1, 2]),
+            mark: mark.to_le_bytes(),
+        };
+        let near = if near.mark == MARK {
+            Trailer::of(64)
+        } else {
+            near
+        };
+        lent(with_trailer(&log, near), 16, &mut rng)
+    }))
+}
+
+/// All numbers of 16 bits; in a short run those with a small high or low byte or right halves.
+fn numbers(size: Size) -> impl Iterator<Item = u16> {
+    (0..=u16::MAX).filter(move |number| {
+        let [low, high] = number.to_le_bytes();
+        size == Size::Full || low < 3 || high < 3 || low == 0x51 || high == 0x4D
+    })
+}
+
+/// Logs of some reads, some of them listed, with outputs of every length up to more than enough.
+pub fn outputs(mut rng: Rng, _: Size) -> Requests {
+    let few = (0..=12).flat_map(|reads| (0..=8 * reads + 17).map(move |len| (reads, len)));
+    let most = 8 * RECORDS_MAX;
+    let many = [0, 1, 8, 4_096].into_iter().chain(most - 17..=most + 17);
+    let many = many.map(|len| (RECORDS_MAX, len));
+    Box::new(few.chain(many).flat_map(move |(reads, out_len)| {
+        PLACES.map(|place| Request {
+            place,
+            ..lent(log_with_reads(reads, &mut rng), out_len, &mut rng)
+        })
+    }))
+}
+
+fn log_with_reads(reads: usize, rng: &mut Rng) -> Vec<u8> {
+    let mut records = Vec::new();
+    for _ in 0..reads {
+        if reads < RECORDS_MAX && rng.chance(30) {
+            records.push(Fields::ticks(1));
+        }
+        records.push(Fields::read(PWM, rng.below(20) as u8, rng.below(6) as u8));
+    }
+    if rng.chance(50) && reads > 0 {
+        // Refused, or the first of the reads that do not count as listed: all need room.
+        let at = rng.below(records.len() as u64) as usize;
+        let odd = Fields::read(I2C, 0, 2);
+        records[at] = rng.pick(&[odd, Fields { value: 1, ..odd }]);
+    }
+    log_of(&records)
+}
+
+const VALUES: [u64; 21] = [
+    0,
+    1,
+    2,
+    3,
+    4,
+    5,
+    6,
+    7,
+    8,
+    15,
+    16,
+    31,
+    32,
+    255,
+    256,
+    65_535,
+    65_536,
+    0xFFFF_FFFF + 1,
+    1 << 40,
+    1 << 63,
+    u64::MAX,
+];
+
+/// Every kind, block, channel and register next to those that are listed, with edges of values; then
+/// a read of the same register.
+pub fn accesses(mut rng: Rng, size: Size) -> Requests {
+    let kinds = [0, 1, 2, 3, 4, 5, 0x81, 0x82, 255];
+    let blocks = [0, 1, 2, 3, 4, 255];
+    let channels = (0..=21).chain([128, 255]);
+    let registers = [0, 1, 2, 3, 4, 5, 6, 255];
+    let places = blocks.into_iter().flat_map(move |block| {
+        let channels = channels.clone();
+        channels.flat_map(move |channel| registers.map(|register| (block, channel, register)))
+    });
+    let all = kinds.into_iter().flat_map(move |kind| {
+        let places = places.clone();
+        places.flat_map(move |(block, channel, register)| {
+            VALUES.map(|value| Fields {
+                kind,
+                block,
+                channel,
+                register,
+                value,
+                ..Fields::default()
+            })
+        })
+    });
+    let step = size.of(37, 1) as usize;
+    Box::new(all.step_by(step).map(move |access| {
+        let select = rng.pick(&[0, ALL_ENCODERS, ALL_PWMS, ALL_PWMS | I2C_PINS]);
+        let again = Fields {
+            kind: 2,
+            value: 0,
+            ..access
+        };
+        let log = log_of(&[Fields::write(SELECT, 0, 0, select), access, again]);
+        lent_well(log, &mut rng)
+    }))
+}
+
+/// Every setting of EN, RST and MODE with every five pins, read after each.
+pub fn pins(mut rng: Rng, _: Size) -> Requests {
+    let all = (0..8u64).flat_map(|cnfg| (0..4u64.pow(5)).map(move |walk| (cnfg, walk)));
+    Box::new(all.map(move |(cnfg, walk)| {
+        let channel = rng.below(10) as u8;
+        let mut records = vec![
+            Fields::write(SELECT, 0, 0, ALL_ENCODERS),
+            Fields::write(ENCODER, channel, 0, cnfg),
+        ];
+        for step in 0..5 {
+            records.push(Fields::pins(channel, walk >> (2 * step) & 3));
+            records.push(Fields::read(ENCODER, channel, 1));
+            records.push(Fields::read(ENCODER, channel, 2));
+        }
+        // A rise of CERR or COVR, then one that stays, between two more pins.
+        let clear = cnfg | rng.pick(&[8, 16, 24]);
+        for _ in 0..2 {
+            records.push(Fields::write(ENCODER, channel, 0, clear));
+            records.push(Fields::pins(channel, rng.below(4)));
+            records.push(Fields::read(ENCODER, channel, 1));
+        }
+        lent_well(log_of(&records), &mut rng)
+    }))
+}
+
+/// Every small MAX and CMP, either level first, three dividers, read after every tick.
+pub fn pwms(mut rng: Rng, _: Size) -> Requests {
+    let all = (0..5u64).flat_map(|max| {
+        (0..7u64).flat_map(move |cmp| {
+            [0, 1, 4, 5]
+                .into_iter()
+                .flat_map(move |cnfg| (1..=3u64).map(move |cs| (max, cmp, cnfg, cs)))
+        })
+    });
+    Box::new(all.map(move |(max, cmp, cnfg, cs)| {
+        let channel = rng.below(20) as u8;
+        let mut records = vec![Fields::write(SELECT, 0, 0, ALL_PWMS)];
+        let writes = [cnfg, cs, max, cmp];
+        for (register, value) in (0..4).zip(writes) {
+            records.push(Fields::write(PWM, channel, register, value));
+        }
+        for tick in 0..32 {
+            records.push(Fields::ticks(1));
+            records.push(Fields::read(PWM, channel, 4));
+            records.push(Fields::read(PWM, channel, 5));
+            if tick == 13 {
+                let register = rng.below(4) as usize;
+                records.push(Fields::write(
+                    PWM,
+                    channel,
+                    register as u8,
+                    writes[register],
+                ));
+            }
+        }
+        lent_well(log_of(&records), &mut rng)
+    }))
+}
+
+/// Every state, R/S and control code.
+pub fn i2c_codes(mut rng: Rng, _: Size) -> Requests {
+    let all = (0..3u64).flat_map(|state| {
+        (0..2u64).flat_map(move |receive| (0..16u64).map(move |cntl| (state, receive, cntl)))
+    });
+    Box::new(all.map(move |(state, receive, cntl)| {
+        let mut records = vec![Fields::write(SELECT, 0, 0, I2C_PINS)];
+        if state > 0 {
+            records.push(Fields::write(I2C, 0, 0, state - 1));
+            records.push(Fields::write(I2C, 0, 1, 0b0011));
+            records.push(Fields::write(I2C, 0, 2, 1));
+        }
+        records.push(Fields::write(I2C, 0, 0, 2 * rng.below(128) | receive));
+        records.push(Fields::write(I2C, 0, 1, cntl));
+        records.push(Fields::read(I2C, 0, 3));
+        records.push(Fields::write(I2C, 0, 2, 1));
+        records.push(Fields::read(I2C, 0, 3));
+        lent_well(log_of(&records), &mut rng)
+    }))
+}
+
+/// Every four functions of two neighbouring pairs, with and without SPI and I2C whole beside them;
+/// then a write to what may have become routed.
+pub fn selects(mut rng: Rng, _: Size) -> Requests {
+    let all = (0..9u64).flat_map(|pair| (0..256u64).map(move |bits| bits << (4 * pair)));
+    Box::new(all.map(move |bits| {
+        let beside = rng.pick(&[0, 0b11_1111 << 10, I2C_PINS]);
+        let (encoder, pwm) = (rng.below(10) as u8, rng.below(20) as u8);
+        let touched = rng.pick(&[
+            Fields::write(ENCODER, encoder, 0, 1),
+            Fields::write(PWM, pwm, 1, 1),
+            Fields::write(I2C, 0, 0, 9),
+        ]);
+        let records = [
+            Fields::write(SELECT, 0, 0, bits | beside),
+            Fields::read(SELECT, 0, 0),
+            touched,
+            Fields::read(SELECT, 0, 0),
+        ];
+        lent_well(log_of(&records), &mut rng)
+    }))
+}

@@ -1,0 +1,230 @@
+//! The log in the making, and the bank that follows it so that what comes next fits.
+
+use super::scenes;
+use super::Rng;
+use crate::reference::bank::{ENCODERS, PWMS};
+use crate::reference::i2c::{State, START, STOP, TX_RX};
+use crate::reference::log::{build, LOG_MAX, RECORDS_MAX};
+use crate::reference::record::{Fields, ENCODER, I2C, PWM, RECORD_LEN, SELECT, TICKS_MAX};
+use crate::reference::Bank;
+use std::ops::Range;
+
+const PINS: usize = 20;
+/// What each of the twenty pins is used for, 0 to 3 as in SELECT.
+pub type Functions = [u8; PINS];
+pub const SPI_PINS: Range<usize> = 5..8;
+pub const I2C_PINS: Range<usize> = 14..16;
+
+pub struct Maker {
+    pub rng: Rng,
+    pub bank: Bank,
+    pub most_ticks: u64,
+    records: Vec<[u8; RECORD_LEN]>,
+    limit: usize,
+}
+
+impl Maker {
+    pub fn new(rng: Rng, most_ticks: u64) -> Self {
+        Maker {
+            rng,
+            bank: Bank::default(),
+            most_ticks: most_ticks.min(TICKS_MAX),
+            records: Vec::new(),
+            limit: RECORDS_MAX,
+        }
+    }
+
+    /// Plays scenes until there are so many records.
+    pub fn play_until(&mut self, wanted: usize) {
+        self.limit = wanted;
+        while self.records.len() < wanted {
+            scenes::play(self);
+        }
+        self.limit = RECORDS_MAX;
+    }
+
+    pub fn finish(mut self, notes_percent: u64) -> Vec<u8> {
+        let log = build(&[], &self.records);
+        let room = (LOG_MAX - log.len()).min(100) as u64;
+        if !self.rng.chance(notes_percent) {
+            return log;
+        }
+        let len = self.rng.below(room + 1);
+        let notes: Vec<u8> = (0..len).map(|_| self.rng.draw() as u8).collect();
+        build(&notes, &self.records)
+    }
+
+    /// Adds a record, unless the scene has come to its limit.
+    pub fn put(&mut self, fields: Fields) {
+        if self.records.len() >= self.limit {
+            return;
+        }
+        if let Ok(record) = fields.decode() {
+            // A refusal leaves the bank as it is, and a reading is not needed here.
+            let _ = self.bank.apply(record);
+        }
+        self.records.push(fields.to_bytes());
+    }
+
+    pub fn write(&mut self, block: u8, channel: u8, register: u8, value: u64) {
+        self.put(Fields::write(block, channel, register, value));
+    }
+
+    pub fn read(&mut self, block: u8, channel: u8, register: u8) {
+        self.put(Fields::read(block, channel, register));
+    }
+
+    pub fn ticks(&mut self, value: u64) {
+        self.put(Fields::ticks(value.min(self.most_ticks)));
+    }
+
+    pub fn functions(&self) -> Functions {
+        std::array::from_fn(|pin| (self.bank.select.0 >> (2 * pin)) as u8 & 3)
+    }
+
+    pub fn write_functions(&mut self, functions: Functions) {
+        self.write(SELECT, 0, 0, select_value(functions));
+    }
+
+    pub fn encoder_routed(&self, channel: u8) -> bool {
+        self.bank.select.encoder_routed(channel.into())
+    }
+
+    pub fn pwm_routed(&self, channel: u8) -> bool {
+        self.bank.select.pwm_routed(channel.into())
+    }
+
+    /// An encoder that is routed, if need be only now.
+    pub fn routed_encoder(&mut self) -> u8 {
+        let routed = channels(ENCODERS, |channel| self.encoder_routed(channel));
+        if !routed.is_empty() {
+            return self.rng.pick(&routed);
+        }
+        let channel = self.rng.below(ENCODERS as u64) as u8;
+        let mut functions = self.functions();
+        set_pair(&mut functions, channel, [2, 2]);
+        self.write_functions(settled(functions));
+        channel
+    }
+
+    /// An encoder that is not routed, if need be only now.
+    pub fn unrouted_encoder(&mut self) -> u8 {
+        let unrouted = channels(ENCODERS, |channel| !self.encoder_routed(channel));
+        if !unrouted.is_empty() {
+            return self.rng.pick(&unrouted);
+        }
+        let channel = self.rng.below(ENCODERS as u64) as u8;
+        let mut functions = self.functions();
+        set_pair(&mut functions, channel, [0, 1]);
+        self.write_functions(settled(functions));
+        channel
+    }
+
+    /// A PWM channel that is routed, if need be only now.
+    pub fn routed_pwm(&mut self) -> u8 {
+        let routed = channels(PWMS, |channel| self.pwm_routed(channel));
+        if !routed.is_empty() {
+            return self.rng.pick(&routed);
+        }
+        let channel = self.rng.below(PWMS as u64) as u8;
+        let mut functions = self.functions();
+        functions[usize::from(channel)] = 1;
+        self.write_functions(settled(functions));
+        channel
+    }
+
+    /// A PWM channel that is not routed, if need be only now.
+    pub fn unrouted_pwm(&mut self) -> u8 {
+        let unrouted = channels(PWMS, |channel| !self.pwm_routed(channel));
+        if !unrouted.is_empty() {
+            return self.rng.pick(&unrouted);
+        }
+        let channel = self.rng.below(PWMS as u64) as u8;
+        let mut functions = self.functions();
+        functions[usize::from(channel)] = 0;
+        self.write_functions(settled(functions));
+        channel
+    }
+
+    pub fn route_i2c(&mut self) {
+        if !self.bank.select.i2c_routed() {
+            let mut functions = self.functions();
+            functions[I2C_PINS].fill(3);
+            self.write_functions(settled(functions));
+        }
+    }
+
+    pub fn unroute_i2c(&mut self) {
+        if self.bank.select.i2c_routed() {
+            let mut functions = self.functions();
+            functions[I2C_PINS].fill(0);
+            self.write_functions(settled(functions));
+        }
+    }
+
+    /// Writes address and control code; GO itself is left to the caller.
+    pub fn prepare_go(&mut self, addr: u8, cntl: u8) {
+        self.write(I2C, 0, 0, addr.into());
+        self.write(I2C, 0, 1, cntl.into());
+    }
+
+    pub fn bring_i2c_to(&mut self, state: State) {
+        self.route_i2c();
+        if self.bank.i2c.state == state {
+            return;
+        }
+        match state {
+            State::Idle => self.prepare_go(0, STOP),
+            State::TxIdle => self.prepare_go(0x20, START | TX_RX),
+            State::RxIdle => self.prepare_go(0x21, START | TX_RX),
+        }
+        self.write(I2C, 0, 2, 1);
+    }
+
+    /// A record that would be applied now.
+    pub fn good_record(&mut self) -> Fields {
+        match self.rng.below(5) {
+            0 => Fields::read(ENCODER, self.rng.below(10) as u8, self.rng.below(3) as u8),
+            1 => Fields::read(PWM, self.rng.below(20) as u8, self.rng.below(6) as u8),
+            2 => Fields::ticks(self.rng.between(0, self.most_ticks)),
+            3 => Fields::pins(self.routed_encoder(), self.rng.below(4)),
+            _ => Fields::write(SELECT, 0, 0, self.bank.select.0),
+        }
+    }
+}
+
+fn channels(number: usize, wanted: impl Fn(u8) -> bool) -> Vec<u8> {
+    (0..number as u8)
+        .filter(|&channel| wanted(channel))
+        .collect()
+}
+
+pub fn select_value(functions: Functions) -> u64 {
+    let bits = |(pin, &function): (usize, &u8)| u64::from(function) << (2 * pin);
+    functions.iter().enumerate().map(bits).sum()
+}
+
+pub fn set_pair(functions: &mut Functions, pair: u8, pins: [u8; 2]) {
+    let first = 2 * usize::from(pair);
+    functions[first..first + 2].copy_from_slice(&pins);
+}
+
+/// The nearest arrangement that is allowed: groups broken up become plain pins, half pairs PWM.
+pub fn settled(mut functions: Functions) -> Functions {
+    let whole = |group: Range<usize>| functions[group].iter().all(|&function| function == 3);
+    let (spi, i2c) = (whole(SPI_PINS), whole(I2C_PINS));
+    for (pin, function) in functions.iter_mut().enumerate() {
+        let held = spi && SPI_PINS.contains(&pin) || i2c && I2C_PINS.contains(&pin);
+        if *function == 3 && !held {
+            *function = 0;
+        }
+    }
+    for pair in functions.chunks_mut(2) {
+        if pair.contains(&2) && pair != [2, 2] {
+            pair.iter_mut()
+                .filter(|pin| **pin == 2)
+                .for_each(|pin| *pin = 1);
+        }
+    }
+    functions
+}

@@ -1,0 +1,366 @@
+//! Short scenes that a log is made of. Each leaves only records that are applied.
+
+use super::maker::{set_pair, settled, Functions, Maker, I2C_PINS, SPI_PINS};
+use crate::reference::bank::ENCODERS;
+use crate::reference::clock::divider;
+use crate::reference::encoder::{A, B, CERR, COVR, EN, MODE, RST};
+use crate::reference::i2c::{I2c, State};
+use crate::reference::record::{Fields, ENCODER, I2C, PWM, SELECT};
+
+const CNFG: u8 = 0;
+const STAT: u8 = 1;
+const CNTR: u8 = 2;
+
+const CS: u8 = 1;
+const MAX: u8 = 2;
+const CMP: u8 = 3;
+const PWM_CNTR: u8 = 4;
+const LEVEL: u8 = 5;
+
+const GENERATE: u64 = 4;
+
+/// The pins one place onward, and one place back.
+const FORWARD: [u8; 4] = [1, 3, 0, 2];
+const BACK: [u8; 4] = [2, 0, 3, 1];
+
+type Scene = fn(&mut Maker);
+
+/// How often out of their sum, and what.
+const SCENES: [(u64, Scene); 11] = [
+    (6, reroute),
+    (3, encoder_route_again),
+    (20, encoder_walk),
+    (10, encoder_settings),
+    (12, encoder_around_zero),
+    (14, pwm_settings),
+    (14, pwm_run),
+    (6, pwm_top_below_counter),
+    (3, pwm_route_again),
+    (12, i2c_talk),
+    (8, read_anything),
+];
+
+pub fn play(maker: &mut Maker) {
+    if maker.bank.select.0 == 0 && maker.rng.chance(70) {
+        let functions = random_functions(maker);
+        return maker.write_functions(settled(functions));
+    }
+    let sum = SCENES.iter().map(|(weight, _)| weight).sum();
+    let mut left = maker.rng.below(sum);
+    for (weight, scene) in SCENES {
+        if left < weight {
+            return scene(maker);
+        }
+        left -= weight;
+    }
+}
+
+fn reroute(maker: &mut Maker) {
+    let functions = match maker.rng.below(6) {
+        0 => maker.functions(),
+        1 => [0; 20],
+        2 | 3 => {
+            let mut functions = maker.functions();
+            let pair = maker.rng.below(ENCODERS as u64) as u8;
+            set_pair(&mut functions, pair, random_pair(maker));
+            functions
+        }
+        _ => random_functions(maker),
+    };
+    maker.write_functions(settled(functions));
+    if maker.rng.chance(50) {
+        maker.read(SELECT, 0, 0);
+    }
+}
+
+fn random_pair(maker: &mut Maker) -> [u8; 2] {
+    maker.rng.pick(&[
+        [0, 0],
+        [0, 1],
+        [1, 0],
+        [1, 1],
+        [1, 1],
+        [2, 2],
+        [2, 2],
+        [2, 2],
+    ])
+}
+
+fn random_functions(maker: &mut Maker) -> Functions {
+    let mut functions = [0; 20];
+    for pair in 0..ENCODERS as u8 {
+        set_pair(&mut functions, pair, random_pair(maker));
+    }
+    if maker.rng.chance(30) {
+        functions[SPI_PINS].fill(3);
+    }
+    if maker.rng.chance(60) {
+        functions[I2C_PINS].fill(3);
+    }
+    functions
+}
+
+fn encoder_settings(maker: &mut Maker) {
+    let channel = maker.routed_encoder();
+    let now = maker.bank.encoders[usize::from(channel)].cnfg;
+    let cnfg = match maker.rng.below(4) {
+        0 => now,
+        1 => now ^ maker.rng.pick(&[EN, RST, MODE]),
+        2 => now ^ maker.rng.pick(&[CERR, COVR, CERR | COVR]),
+        _ => maker.rng.below(32) as u8,
+    };
+    maker.write(ENCODER, channel, CNFG, cnfg.into());
+    if maker.rng.chance(30) {
+        maker.read(ENCODER, channel, CNFG);
+    }
+    read_flags_or_count(maker, channel);
+}
+
+fn read_flags_or_count(maker: &mut Maker, channel: u8) {
+    let register = maker.rng.pick(&[STAT, CNTR]);
+    maker.read(ENCODER, channel, register);
+}
+
+fn encoder_walk(maker: &mut Maker) {
+    let channel = maker.routed_encoder();
+    let now = maker.bank.encoders[usize::from(channel)].cnfg;
+    if now & EN == 0 && maker.rng.chance(85) {
+        let mode = if maker.rng.chance(30) { MODE } else { 0 };
+        maker.write(ENCODER, channel, CNFG, (now & !MODE | EN | mode).into());
+    }
+    if now & RST != 0 && maker.rng.chance(70) {
+        let cnfg = maker.bank.encoders[usize::from(channel)].cnfg & !RST;
+        maker.write(ENCODER, channel, CNFG, cnfg.into());
+    }
+    let forward_percent = maker.rng.pick(&[5, 50, 95]);
+    for _ in 0..maker.rng.between(1, 40) {
+        walk_on(maker, channel, forward_percent);
+        if maker.rng.chance(8) {
+            read_flags_or_count(maker, channel);
+        }
+    }
+    maker.read(ENCODER, channel, CNTR);
+    maker.read(ENCODER, channel, STAT);
+}
+
+fn walk_on(maker: &mut Maker, channel: u8, forward_percent: u64) {
+    let any = maker.rng.below(4) as u8;
+    let old = maker.bank.encoders[usize::from(channel)]
+        .seen
+        .unwrap_or(any);
+    let new = match maker.rng.below(12) {
+        0 => old,
+        1 => old ^ (A | B),
+        2 => any,
+        _ if maker.rng.chance(forward_percent) => FORWARD[usize::from(old)],
+        _ => BACK[usize::from(old)],
+    };
+    maker.put(Fields::pins(channel, new.into()));
+}
+
+/// The count starts at 0 and crosses it again and again, with the overflow flags cleared or kept.
+fn encoder_around_zero(maker: &mut Maker) {
+    let channel = maker.routed_encoder();
+    let mode = if maker.rng.chance(35) { MODE } else { 0 };
+    maker.write(ENCODER, channel, CNFG, (EN | RST | mode).into());
+    if maker.rng.chance(50) {
+        maker.put(Fields::pins(channel, 0));
+    }
+    let cover = maker.rng.pick(&[0, COVR]);
+    maker.write(ENCODER, channel, CNFG, (EN | mode | cover).into());
+    maker.put(Fields::pins(channel, 0));
+    for _ in 0..maker.rng.between(1, 4) {
+        for _ in 0..maker.rng.between(1, 3) {
+            counted_step(maker, channel, false);
+        }
+        maker.read(ENCODER, channel, CNTR);
+        for _ in 0..maker.rng.between(1, 4) {
+            counted_step(maker, channel, true);
+        }
+        maker.read(ENCODER, channel, STAT);
+        if maker.rng.chance(20) {
+            let now = maker.bank.encoders[usize::from(channel)].cnfg;
+            maker.write(ENCODER, channel, CNFG, (now ^ COVR).into());
+            maker.read(ENCODER, channel, STAT);
+        }
+    }
+    maker.read(ENCODER, channel, CNTR);
+}
+
+fn counted_step(maker: &mut Maker, channel: u8, forward: bool) {
+    let encoder = &maker.bank.encoders[usize::from(channel)];
+    if encoder.cnfg & MODE != 0 {
+        let b = if forward { 0 } else { B };
+        maker.put(Fields::pins(channel, b.into()));
+        maker.put(Fields::pins(channel, (A | b).into()));
+        return;
+    }
+    let old = usize::from(encoder.seen.unwrap_or(0));
+    let new = if forward { FORWARD[old] } else { BACK[old] };
+    maker.put(Fields::pins(channel, new.into()));
+}
+
+/// Routed away and back: the next pins are the first again, and nothing else is lost.
+fn encoder_route_again(maker: &mut Maker) {
+    let channel = maker.routed_encoder();
+    let before = maker.functions();
+    let mut away = before;
+    set_pair(
+        &mut away,
+        channel,
+        maker.rng.pick(&[[0, 0], [1, 0], [1, 1]]),
+    );
+    maker.write_functions(settled(away));
+    maker.read(ENCODER, channel, CNTR);
+    maker.write_functions(before);
+    for _ in 0..maker.rng.between(1, 4) {
+        walk_on(maker, channel, 50);
+    }
+    maker.read(ENCODER, channel, CNTR);
+    maker.read(ENCODER, channel, STAT);
+}
+
+fn pwm_settings(maker: &mut Maker) {
+    let channel = maker.routed_pwm();
+    let max = random_max(maker, channel);
+    let cmp = random_cmp(maker, channel, max);
+    let writes = [
+        (CNFG, maker.rng.pick(&[0, 1, 4, 4, 4, 5, 5, 5])),
+        (CS, maker.rng.pick(&[0, 1, 1, 1, 2, 3, 4, 5, 6, 7])),
+        (MAX, max),
+        (CMP, cmp),
+    ];
+    let first = maker.rng.below(4) as usize;
+    for (register, value) in (0..4).map(|index| writes[(first + index) % 4]) {
+        if maker.rng.chance(80) {
+            maker.write(PWM, channel, register, value);
+        }
+    }
+    wait_and_look(maker, channel);
+}
+
+fn random_max(maker: &mut Maker, channel: u8) -> u64 {
+    let counter = u64::from(maker.bank.pwms[usize::from(channel)].counter);
+    match maker.rng.below(4) {
+        0 => maker.rng.pick(&[0, 1, 65_534, 65_535]),
+        1 => (counter + maker.rng.below(3)).saturating_sub(1).min(65_535),
+        2 => maker.rng.below(65_536),
+        _ => maker.rng.below(24),
+    }
+}
+
+fn random_cmp(maker: &mut Maker, channel: u8, max: u64) -> u64 {
+    let counter = u64::from(maker.bank.pwms[usize::from(channel)].counter);
+    match maker.rng.below(5) {
+        0 => maker.rng.pick(&[0, 1, 65_535]),
+        1 => (max + maker.rng.below(3)).saturating_sub(1).min(65_535),
+        2 => (counter + maker.rng.below(3)).saturating_sub(1).min(65_535),
+        3 => maker.rng.below(65_536),
+        _ => maker.rng.below(24),
+    }
+}
+
+fn pwm_run(maker: &mut Maker) {
+    let channel = maker.routed_pwm();
+    for _ in 0..maker.rng.between(1, 6) {
+        wait_and_look(maker, channel);
+    }
+}
+
+fn wait_and_look(maker: &mut Maker, channel: u8) {
+    let cs = maker.bank.pwms[usize::from(channel)].cs;
+    let n = divider(cs.into()).unwrap_or(1);
+    let wait = match maker.rng.below(4) {
+        0 => maker.rng.below(3),
+        1 => (n * maker.rng.between(1, 3) + maker.rng.below(3)).saturating_sub(1),
+        2 => maker.rng.below(20),
+        _ => maker.rng.between(0, maker.most_ticks),
+    };
+    maker.ticks(wait);
+    maker.read(PWM, channel, PWM_CNTR);
+    maker.read(PWM, channel, LEVEL);
+}
+
+fn pwm_top_below_counter(maker: &mut Maker) {
+    let channel = maker.routed_pwm();
+    let inverted = maker.rng.below(2);
+    maker.write(PWM, channel, MAX, 65_535);
+    maker.write(PWM, channel, CNFG, GENERATE | inverted);
+    maker.write(PWM, channel, CS, 1);
+    maker.ticks(maker.most_ticks.min(40));
+    let counter = u64::from(maker.bank.pwms[usize::from(channel)].counter);
+    let max = maker.rng.below(counter + 1);
+    maker.write(PWM, channel, MAX, max);
+    if maker.rng.chance(60) {
+        let cmp = random_cmp(maker, channel, max);
+        maker.write(PWM, channel, CMP, cmp);
+    }
+    let cs = maker.rng.pick(&[1, 1, 2, 3, 7]);
+    maker.write(PWM, channel, CS, cs);
+    for _ in 0..maker.rng.between(1, 4) {
+        wait_and_look(maker, channel);
+    }
+}
+
+/// Routed away while the clock runs on: the channel stands still, then goes on where it was.
+fn pwm_route_again(maker: &mut Maker) {
+    let channel = maker.routed_pwm();
+    let before = maker.functions();
+    let mut away = before;
+    away[usize::from(channel)] = 0;
+    maker.write_functions(away);
+    wait_and_look(maker, channel);
+    maker.write_functions(before);
+    wait_and_look(maker, channel);
+}
+
+fn i2c_talk(maker: &mut Maker) {
+    maker.route_i2c();
+    for _ in 0..maker.rng.between(1, 6) {
+        let (addr, cntl) = allowed_code(maker);
+        let same = maker.bank.i2c.addr == addr && maker.bank.i2c.cntl == cntl;
+        if !same || maker.rng.chance(50) {
+            maker.prepare_go(addr, cntl);
+        }
+        maker.write(I2C, 0, 2, 1);
+        maker.read(I2C, 0, 3);
+    }
+    if maker.rng.chance(30) {
+        maker.unroute_i2c();
+    }
+    maker.read(I2C, 0, 0);
+    maker.read(I2C, 0, 1);
+}
+
+fn allowed_code(maker: &mut Maker) -> (u8, u8) {
+    let state = maker.bank.i2c.state;
+    let codes: Vec<(u8, u8)> = (0..2)
+        .flat_map(|receive| (0..16).map(move |cntl| (receive, cntl)))
+        .filter(|&(addr, cntl)| I2c { addr, cntl, state }.after_go().is_some())
+        // Else most talks would be over at once.
+        .filter(|&(addr, cntl)| leaves_bus(addr, cntl, state) == maker.rng.chance(40))
+        .collect();
+    if codes.is_empty() {
+        return (0, 0b0011);
+    }
+    let (receive, cntl) = maker.rng.pick(&codes);
+    ((maker.rng.below(128) as u8) << 1 | receive, cntl)
+}
+
+fn leaves_bus(addr: u8, cntl: u8, state: State) -> bool {
+    I2c { addr, cntl, state }.after_go() == Some(State::Idle)
+}
+
+fn read_anything(maker: &mut Maker) {
+    for _ in 0..maker.rng.between(1, 10) {
+        let (block, channels, registers): (u8, u64, &[u8]) = match maker.rng.below(10) {
+            0 => (SELECT, 1, &[0]),
+            1 => (I2C, 1, &[0, 1, 3]),
+            2..=4 => (ENCODER, 10, &[0, 1, 2]),
+            _ => (PWM, 20, &[0, 1, 2, 3, 4, 5]),
+        };
+        let channel = maker.rng.below(channels) as u8;
+        let register = maker.rng.pick(registers);
+        maker.read(block, channel, register);
+    }
+}

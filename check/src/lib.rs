@@ -1,0 +1,12 @@
+//! The independent second program of Rivandoze: the rules of paper 01 in plain Rust.
+//!
+//! `reference` holds the rules, `packed` the same answers as single numbers, `text` a written form
+//! of logs, `generate` a seeded maker of logs, `cases` what the library is asked in a comparison,
+//! `exchange` the way in which it is asked and answers.
+
+pub mod cases;
+pub mod exchange;
+pub mod generate;
+pub mod packed;
+pub mod reference;
+pub mod text;

@@ -1,0 +1,142 @@
+//! The second program. Without arguments it is the program of paper 01; the rest is for comparing
+//! and for writing logs by hand.
+
+use rivandoze_check::generate::{generate, Settings};
+use rivandoze_check::reference::log::{each_reading, LOG_MAX, READING_LEN, RECORDS_MAX};
+use rivandoze_check::reference::refusal::Refusal;
+use rivandoze_check::reference::{
+    find_pwm, find_spi, rate_pwm, rate_spi, replay_fully, Outcome, Pair,
+};
+use rivandoze_check::text::{from_text, to_text};
+use std::fmt::Write as _;
+use std::io::{self, Read, Write as _};
+use std::process::ExitCode;
+
+const USAGE: &str = "\
+rvz-check                       replay the log on standard input
+rvz-check state                 the same, and show the end state
+rvz-check pwm RATE TOL          find a divider choice and X
+rvz-check spi RATE TOL
+rvz-check pwm-rate CHOICE X     the rate that registers give
+rvz-check spi-rate CHOICE X
+rvz-check to-text               a log on standard input, its text on standard output
+rvz-check from-text             the way back
+rvz-check generate SEED [RECORDS TICKS PERCENT]
+                                a log made from a seed, on standard output, with the most
+                                records, the longest wait and the share of refused logs
+";
+
+fn main() -> ExitCode {
+    let arguments: Vec<String> = std::env::args_os()
+        .skip(1)
+        .map(|argument| argument.to_string_lossy().into_owned())
+        .collect();
+    let words: Vec<&str> = arguments.iter().map(String::as_str).collect();
+    match answer(&words) {
+        Ok(bytes) => match io::stdout().write_all(&bytes) {
+            Ok(()) => ExitCode::SUCCESS,
+            Err(error) => complain(&format!("standard output: {error}")),
+        },
+        Err(message) => complain(&message),
+    }
+}
+
+fn complain(message: &str) -> ExitCode {
+    eprintln!("{}", message.trim_end());
+    ExitCode::from(2)
+}
+
+fn answer(words: &[&str]) -> Result<Vec<u8>, String> {
+    let text = match words {
+        [] => readings_and_verdict(&replayed(&input(LOG_MAX + 1)?)),
+        ["state"] => {
+            let whole = replayed(&input(LOG_MAX + 1)?);
+            let verdict = readings_and_verdict(&whole);
+            format!("{verdict}{:#?}\n", whole.outcome.bank)
+        }
+        ["pwm", rate, tol] => pair(find_pwm(number(rate)?, number(tol)?)),
+        ["spi", rate, tol] => pair(find_spi(number(rate)?, number(tol)?)),
+        ["pwm-rate", choice, x] => fraction(rate_pwm(number(choice)?, number(x)?)),
+        ["spi-rate", choice, x] => fraction(rate_spi(number(choice)?, number(x)?)),
+        ["to-text"] => to_text(&input(usize::MAX)?),
+        ["from-text"] => return log_from(input(usize::MAX)?),
+        ["generate", seed] => return Ok(generate(number(seed)?, &Settings::default())),
+        ["generate", seed, records, ticks, percent] => {
+            let settings = Settings {
+                most_records: usize::try_from(number(records)?).unwrap_or(usize::MAX),
+                most_ticks: number(ticks)?,
+                refused_percent: number(percent)?,
+                ..Settings::default()
+            };
+            return Ok(generate(number(seed)?, &settings));
+        }
+        _ => return Err(USAGE.into()),
+    };
+    Ok(text.into_bytes())
+}
+
+/// Standard input, up to so many bytes.
+fn input(most: usize) -> Result<Vec<u8>, String> {
+    let mut bytes = Vec::new();
+    io::stdin()
+        .lock()
+        .take(most as u64)
+        .read_to_end(&mut bytes)
+        .map_err(|error| format!("standard input: {error}"))?;
+    Ok(bytes)
+}
+
+struct Replayed {
+    outcome: Outcome,
+    out: Vec<u8>,
+}
+
+fn replayed(log: &[u8]) -> Replayed {
+    // Room for a log of nothing but reads: the program itself never gives refusal 6.
+    let mut out = vec![0; RECORDS_MAX * READING_LEN];
+    let outcome = replay_fully(log, &mut out);
+    Replayed { outcome, out }
+}
+
+fn readings_and_verdict(replayed: &Replayed) -> String {
+    let Replayed { outcome, out } = replayed;
+    let readings = each_reading(out).take(outcome.readings);
+    let mut text: String = readings.map(|reading| format!("{reading}\n")).collect();
+    let answer = outcome.answer;
+    // Writing into a String cannot fail.
+    let _ = writeln!(
+        text,
+        "applied {} refused {}",
+        answer.applied, answer.refusal
+    );
+    text
+}
+
+fn pair(answer: Result<Pair, Refusal>) -> String {
+    match answer {
+        Ok(pair) => format!("choice {} x {}\n", pair.choice, pair.x),
+        Err(refusal) => refused(refusal),
+    }
+}
+
+fn fraction(answer: Result<(u64, u64), Refusal>) -> String {
+    match answer {
+        Ok((clock, period)) => format!("{clock} {period}\n"),
+        Err(refusal) => refused(refusal),
+    }
+}
+
+fn refused(refusal: Refusal) -> String {
+    format!("refused {refusal}\n")
+}
+
+fn number(word: &str) -> Result<u64, String> {
+    let digits = !word.is_empty() && word.bytes().all(|byte| byte.is_ascii_digit());
+    let value = if digits { word.parse().ok() } else { None };
+    value.ok_or_else(|| format!("`{word}` is not a decimal number of 64 bits"))
+}
+
+fn log_from(bytes: Vec<u8>) -> Result<Vec<u8>, String> {
+    let text = String::from_utf8(bytes).map_err(|_| "the text is not UTF-8")?;
+    from_text(&text).map_err(|(line, message)| format!("line {line}: {message}"))
+}

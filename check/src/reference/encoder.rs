@@ -1,0 +1,133 @@
+//! One encoder channel.
+
+pub const EN: u8 = 1 << 0;
+pub const RST: u8 = 1 << 1;
+pub const MODE: u8 = 1 << 2;
+pub const CERR: u8 = 1 << 3;
+pub const COVR: u8 = 1 << 4;
+pub const CNFG_MAX: u64 = 31;
+
+pub const DIR: u8 = 1 << 0;
+pub const ERR: u8 = 1 << 1;
+pub const UOVR: u8 = 1 << 2;
+pub const SOVR: u8 = 1 << 3;
+pub const UOERR: u8 = 1 << 4;
+pub const SOERR: u8 = 1 << 5;
+const OVERFLOWS: u8 = UOVR | SOVR | UOERR | SOERR;
+
+pub const A: u8 = 1 << 0;
+pub const B: u8 = 1 << 1;
+pub const PINS_MAX: u64 = 3;
+
+/// The place of each pair of pins on the forward round 00, 10, 11, 01 (written A first).
+const PLACE: [u8; 4] = [0, 1, 3, 2];
+
+/// What a change of pins asks of the count.
+#[derive(Debug, Clone, Copy, PartialEq, Eq)]
+enum Turn {
+    Still,
+    Forward,
+    Back,
+    Double,
+}
+
+#[derive(Debug, Clone, PartialEq, Eq, Default)]
+pub struct Encoder {
+    pub cnfg: u8,
+    pub stat: u8,
+    pub count: i32,
+    /// The stored pins, or nothing while they are unseen.
+    pub seen: Option<u8>,
+}
+
+impl Encoder {
+    pub fn write_cnfg(&mut self, cnfg: u8) {
+        let risen = cnfg & !self.cnfg;
+        let changed = cnfg ^ self.cnfg;
+        self.cnfg = cnfg;
+        if risen & CERR != 0 {
+            self.stat &= !ERR;
+        }
+        if risen & COVR != 0 {
+            self.stat &= !OVERFLOWS;
+        }
+        if cnfg & RST != 0 {
+            self.count = 0;
+        }
+        if changed & (EN | MODE) != 0 {
+            self.forget_pins();
+        }
+    }
+
+    pub fn forget_pins(&mut self) {
+        self.seen = None;
+    }
+
+    pub fn pins(&mut self, new: u8) {
+        if self.cnfg & EN == 0 {
+            return;
+        }
+        let old = match self.seen.replace(new) {
+            Some(old) => old,
+            None => return,
+        };
+        if self.cnfg & RST != 0 {
+            return;
+        }
+        let turn = if self.cnfg & MODE == 0 {
+            quadrature(old, new)
+        } else {
+            step_and_direction(old, new)
+        };
+        match turn {
+            Turn::Still => {}
+            Turn::Forward => self.step_forward(),
+            Turn::Back => self.step_back(),
+            Turn::Double => self.stat |= ERR,
+        }
+    }
+
+    pub fn cntr(&self) -> u64 {
+        u64::from(self.count as u32)
+    }
+
+    fn step_forward(&mut self) {
+        if self.count == -1 {
+            self.overflow(UOVR, UOERR);
+        }
+        if self.count == i32::MAX {
+            self.overflow(SOVR, SOERR);
+        }
+        self.count = self.count.wrapping_add(1);
+        self.stat &= !DIR;
+    }
+
+    fn step_back(&mut self) {
+        self.count = self.count.wrapping_sub(1);
+        self.stat |= DIR;
+    }
+
+    fn overflow(&mut self, first: u8, again: u8) {
+        self.stat |= if self.stat & first == 0 { first } else { again };
+    }
+}
+
+fn quadrature(old: u8, new: u8) -> Turn {
+    let places = PLACE[usize::from(new)].wrapping_sub(PLACE[usize::from(old)]) % 4;
+    match places {
+        0 => Turn::Still,
+        1 => Turn::Forward,
+        2 => Turn::Double,
+        _ => Turn::Back,
+    }
+}
+
+fn step_and_direction(old: u8, new: u8) -> Turn {
+    if old & A != 0 || new & A == 0 {
+        Turn::Still
+    } else if new & B == 0 {
+        Turn::Forward
+    } else {
+        Turn::Back
+    }
+}

@@ -1,0 +1,236 @@
+//! The maker of logs keeps its promises and reaches what it is for.
+
+use crate::common::run;
+use rivandoze_check::generate::{
+    change_bytes, flip_bits, generate, generate_with, near_miss_trailer, splice, truncate, Rng,
+    Settings, FAULTS,
+};
+use rivandoze_check::reference::encoder::{DIR, EN, ERR, MODE, UOERR, UOVR};
+use rivandoze_check::reference::log::{records, LOG_MAX};
+use rivandoze_check::reference::record::{Fields, Record, WriteTo};
+use rivandoze_check::reference::Bank;
+use std::collections::BTreeSet;
+
+fn settings(refused_percent: u64) -> Settings {
+    Settings {
+        refused_percent,
+        ..Settings::default()
+    }
+}
+
+#[test]
+fn the_same_seed_makes_the_same_log() {
+    let settings = Settings::default();
+    for seed in 0..20 {
+        assert_eq!(generate(seed, &settings), generate(seed, &settings));
+    }
+    assert_ne!(generate(1, &settings), generate(2, &settings));
+}
+
+#[test]
+fn logs_without_a_fault_are_not_refused() {
+    let mut longest = 0;
+    for seed in 0..400 {
+        let settings = Settings {
+            most_ticks: if seed % 4 == 0 { u64::MAX } else { 300 },
+            ..settings(0)
+        };
+        let log = generate(seed, &settings);
+        assert!(log.len() <= LOG_MAX);
+        let run = run(&log);
+        assert_eq!(run.refusal, 0, "seed {seed} record {}", run.applied);
+        longest = longest.max(run.applied);
+    }
+    assert!(longest > 2_000);
+}
+
+#[test]
+fn each_fault_is_refused_as_it_says() {
+    let short = Settings {
+        most_records: 40,
+        ..Settings::default()
+    };
+    for fault in FAULTS {
+        for seed in 0..60 {
+            let log = generate_with(seed, &short, *fault);
+            let run = run(&log);
+            assert_eq!(run.refusal, fault.refusal, "{} seed {seed}", fault.name);
+        }
+    }
+    let refusals: BTreeSet<u8> = FAULTS.iter().map(|fault| fault.refusal).collect();
+    assert_eq!(refusals.into_iter().collect::<Vec<u8>>(), [7, 8, 9, 10, 11]);
+}
+
+#[test]
+fn a_fault_fits_into_the_longest_logs() {
+    for seed in 0..100 {
+        for fault in FAULTS.iter().step_by(7) {
+            let log = generate_with(seed, &Settings::default(), *fault);
+            assert!(log.len() <= LOG_MAX);
+            assert_eq!(run(&log).refusal, fault.refusal);
+        }
+    }
+}
+
+#[test]
+fn the_share_of_refused_logs_is_kept() {
+    let refused = |percent| {
+        let settings = Settings {
+            most_records: 10,
+            ..settings(percent)
+        };
+        (0..400)
+            .filter(|&seed| run(&generate(seed, &settings)).refusal != 0)
+            .count()
+    };
+    assert_eq!(refused(0), 0);
+    assert_eq!(refused(100), 400);
+    assert!((70..130).contains(&refused(25)));
+}
+
+#[test]
+fn waits_keep_to_their_longest() {
+    for most_ticks in [0, 300, 70_000, u64::from(u32::MAX)] {
+        let settings = Settings {
+            most_ticks,
+            ..settings(0)
+        };
+        let mut longest = 0;
+        for seed in 0..30 {
+            let log = generate(seed, &settings);
+            for bytes in records(&log).expect("a made log has a good trailer") {
+                if let Ok(Record::Ticks(value)) = Fields::from_bytes(bytes).decode() {
+                    longest = longest.max(value);
+                }
+            }
+        }
+        assert!(longest <= most_ticks);
+        assert!(longest * 10 >= most_ticks * 9);
+    }
+}
+
+/// What was met on the way through some logs.
+#[derive(Default)]
+struct Met {
+    stat: u8,
+    stat_in_mode_1: u8,
+    counts: BTreeSet<i32>,
+    dividers_stepping: BTreeSet<u8>,
+    pwm_cnfg: BTreeSet<u8>,
+    i2c: BTreeSet<(u8, u8, u8)>,
+    reads: BTreeSet<(u8, u8, u8)>,
+    counter_above_top: bool,
+    wrapped_at_max: BTreeSet<u16>,
+    cmp_edges: BTreeSet<&'static str>,
+    pins_seen_again: bool,
+    spi: bool,
+}
+
+impl Met {
+    fn record(&mut self, before: &Bank, fields: Fields, after: &Bank) {
+        if fields.kind == 2 {
+            self.reads
+                .insert((fields.block, fields.channel, fields.register));
+        }
+        for encoder in &after.encoders {
+            self.stat |= encoder.stat;
+            if encoder.cnfg & MODE != 0 && encoder.cnfg & EN != 0 {
+                self.stat_in_mode_1 |= encoder.stat;
+            }
+            self.counts.insert(encoder.count);
+        }
+        for (old, new) in before.pwms.iter().zip(&after.pwms) {
+            self.pwm_cnfg.insert(new.cnfg);
+            if new.cnfg & 4 == 0 {
+                continue;
+            }
+            self.counter_above_top |= new.counter > new.max;
+            if old.counter != new.counter {
+                self.dividers_stepping.insert(new.cs);
+                if old.counter > new.counter {
+                    self.wrapped_at_max.insert(new.max);
+                }
+                self.cmp_edges.insert(match new.cmp {
+                    0 => "zero",
+                    u16::MAX => "most",
+                    cmp if cmp == new.max => "equal",
+                    cmp if cmp > new.max => "above",
+                    _ => "below",
+                });
+            }
+        }
+        if let Ok(Record::Write(WriteTo::I2cGo, _)) = fields.decode() {
+            let i2c = &before.i2c;
+            self.i2c.insert((i2c.state as u8, i2c.addr & 1, i2c.cntl));
+        }
+        if let Ok(Record::Write(WriteTo::Select, _)) = fields.decode() {
+            let pairs = before.encoders.iter().zip(&after.encoders);
+            self.pins_seen_again |= pairs
+                .into_iter()
+                .any(|(old, new)| old.seen.is_some() && new.seen.is_none());
+            self.spi |= after.select.0 >> 10 & 0x3F == 0x3F;
+        }
+    }
+}
+
+fn met(seeds: u64) -> Met {
+    let mut met = Met::default();
+    for seed in 0..seeds {
+        let log = generate(seed, &settings(0));
+        let mut bank = Bank::default();
+        for bytes in records(&log).expect("a made log has a good trailer") {
+            let fields = Fields::from_bytes(bytes);
+            let before = bank.clone();
+            let record = fields.decode().expect("a log without a fault");
+            bank.apply(record).expect("a log without a fault");
+            met.record(&before, fields, &bank);
+        }
+    }
+    met
+}
+
+#[test]
+fn deep_states_are_reached() {
+    let met = met(120);
+    assert_eq!(met.stat, DIR | ERR | UOVR | UOERR);
+    assert_eq!(met.stat_in_mode_1 & (UOVR | UOERR), UOVR | UOERR);
+    for count in -20..20 {
+        assert!(met.counts.contains(&count), "count {count}");
+    }
+    assert_eq!(met.dividers_stepping.len(), 7);
+    assert_eq!(met.pwm_cnfg.into_iter().collect::<Vec<u8>>(), [0, 1, 4, 5]);
+    assert_eq!(met.i2c.len(), 36);
+    assert_eq!(met.reads.len(), 1 + 10 * 3 + 20 * 6 + 3);
+    assert!(met.counter_above_top);
+    assert!(met.wrapped_at_max.contains(&0) || met.wrapped_at_max.contains(&1));
+    assert_eq!(met.cmp_edges.len(), 5);
+    assert!(met.pins_seen_again);
+    assert!(met.spi);
+}
+
+#[test]
+fn damage_is_of_its_kind() {
+    let mut rng = Rng::new(41);
+    let mut trailer_refusals = BTreeSet::new();
+    for seed in 0..500 {
+        let log = generate(seed, &settings(0));
+        let flipped = flip_bits(&log, &mut rng);
+        assert_eq!(flipped.len(), log.len());
+        assert!((0..=4).contains(&crate::common::bits_apart(&log, &flipped)));
+        let changed = change_bytes(&log, &mut rng);
+        let differing = log.iter().zip(&changed).filter(|(a, b)| a != b).count();
+        assert!(changed.len() == log.len() && differing <= 4);
+        let cut = truncate(&log, &mut rng);
+        assert!(log.starts_with(&cut));
+        let spliced = splice(&log, &cut, &mut rng);
+        assert!(spliced.len() <= log.len() + cut.len());
+        let near = near_miss_trailer(&log, &mut rng);
+        assert_eq!(near[..near.len() - 8], log[..log.len() - 8]);
+        trailer_refusals.insert(run(&near).refusal);
+    }
+    for refusal in [0, 3, 4, 5] {
+        assert!(trailer_refusals.contains(&refusal), "refusal {refusal}");
+    }
+    assert_eq!(flip_bits(&[], &mut rng), []);
+    assert_eq!(near_miss_trailer(&[1, 2], &mut rng), [1, 2]);
+}

@@ -1,0 +1,14 @@
+mod common;
+mod encoder;
+mod errors_seen;
+mod finder;
+mod generate;
+mod i2c;
+mod packed;
+mod program;
+mod pwm;
+mod refusals;
+mod robust;
+mod select;
+mod text;
+mod worked_sums;

@@ -1,0 +1,99 @@
+//! The program as it is run.
+
+use crate::common::log;
+use std::io::Write;
+use std::process::{Command, Output, Stdio};
+
+fn program(arguments: &[&str], input: &[u8]) -> Output {
+    let mut child = Command::new(env!("CARGO_BIN_EXE_rvz-check"))
+        .args(arguments)
+        .stdin(Stdio::piped())
+        .stdout(Stdio::piped())
+        .stderr(Stdio::piped())
+        .spawn()
+        .expect("the program starts");
+    let mut stdin = child.stdin.take().expect("standard input is a pipe");
+    // A program that needs no more input closes its end, which is not an error here.
+    let _ = stdin.write_all(input);
+    drop(stdin);
+    child.wait_with_output().expect("the program ends")
+}
+
+fn printed(arguments: &[&str], input: &[u8]) -> String {
+    let output = program(arguments, input);
+    assert!(output.status.success());
+    String::from_utf8(output.stdout).expect("the program prints text")
+}
+
+#[test]
+fn replay_prints_readings_then_the_verdict() {
+    let whole = log("write select 10
+        write encoder 0 cnfg 1
+        pins encoder 0 0
+        pins encoder 0 1
+        read encoder 0 cntr");
+    assert_eq!(printed(&[], &whole), "1\napplied 5 refused 0\n");
+}
+
+#[test]
+fn readings_before_a_refusal_are_printed() {
+    let text = "read select\nwrite select 10\nread select\nread i2c go\nread select";
+    assert_eq!(printed(&[], &log(text)), "0\n10\napplied 3 refused 7\n");
+}
+
+#[test]
+fn lengths_of_input() {
+    assert_eq!(printed(&[], b""), "applied 0 refused 2\n");
+    assert_eq!(printed(&[], &log("")), "applied 0 refused 0\n");
+    let reads = log(&format!(
+        "note \"12345678\"\n{}",
+        "read select\n".repeat(2_047)
+    ));
+    assert_eq!(reads.len(), 32_768);
+    let wanted = "0\n".repeat(2_047) + "applied 2047 refused 0\n";
+    assert_eq!(printed(&[], &reads), wanted);
+    let too_long = [&[0], reads.as_slice()].concat();
+    assert_eq!(printed(&[], &too_long), "applied 0 refused 1\n");
+    assert_eq!(printed(&[], &[0; 100_000]), "applied 0 refused 1\n");
+}
+
+#[test]
+fn rates() {
+    assert_eq!(printed(&["pwm", "610", "4"], b""), "choice 2 x 32786\n");
+    assert_eq!(printed(&["pwm", "610", "3"], b""), "refused 14\n");
+    assert_eq!(printed(&["spi", "3650000", "86758"], b""), "choice 1 x 5\n");
+    assert_eq!(
+        printed(&["pwm-rate", "1", "39999"], b""),
+        "40000000 40000\n"
+    );
+    assert_eq!(printed(&["spi-rate", "1", "4"], b""), "40000000 10\n");
+    assert_eq!(printed(&["spi-rate", "0", "4"], b""), "refused 15\n");
+}
+
+#[test]
+fn what_is_not_understood_is_said() {
+    for (arguments, words) in [
+        (&["pwm", "x", "4"][..], "`x` is not a decimal number"),
+        (&["pwm", "610", "+4"], "`+4` is not a decimal number"),
+        (&["pwm", "610", "18446744073709551616"], "is not a decimal"),
+        (&["pwm", "610"], "rvz-check pwm RATE TOL"),
+        (&["help"], "rvz-check pwm RATE TOL"),
+    ] {
+        let output = program(arguments, b"");
+        assert_eq!(output.status.code(), Some(2));
+        assert!(output.stdout.is_empty());
+        assert!(String::from_utf8_lossy(&output.stderr).contains(words));
+    }
+}
+
+#[test]
+fn text_and_back() {
+    let made = program(&["generate", "5"], b"").stdout;
+    let text = printed(&["to-text"], &made);
+    assert_eq!(program(&["from-text"], text.as_bytes()).stdout, made);
+    let refused = program(&["generate", "5", "30", "9", "100"], b"").stdout;
+    assert!(printed(&["to-text"], &refused).lines().count() <= 60);
+    assert!(!printed(&[], &refused).ends_with(" refused 0\n"));
+    let wrong = program(&["from-text"], b"ticks 1\nticks");
+    assert!(String::from_utf8_lossy(&wrong.stderr).starts_with("line 2: "));
+}

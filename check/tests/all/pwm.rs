@@ -1,0 +1,247 @@
+use crate::common::{readings, run_text};
+use rivandoze_check::generate::Rng;
+use rivandoze_check::reference::pwm::Pwm;
+
+fn assert_both_ways_equal(start: &Pwm, ticks: u32) {
+    let (mut at_once, mut one_by_one) = (start.clone(), start.clone());
+    at_once.ticks(ticks);
+    one_by_one.ticks_one_by_one(ticks);
+    assert_eq!(at_once, one_by_one, "{ticks} ticks from {start:?}");
+}
+
+#[test]
+fn at_once_equals_one_by_one_everywhere_in_the_small() {
+    for index in 0..4 * 4 * 5 * 6 * 7 * 2 {
+        let mut left = index;
+        let mut digit = |base| {
+            let digit = left % base;
+            left /= base;
+            digit as u16
+        };
+        let start = Pwm {
+            cnfg: [0, 1, 4, 5][usize::from(digit(4))],
+            cs: digit(4) as u8,
+            max: digit(5),
+            cmp: digit(6),
+            counter: digit(7),
+            output: digit(2) == 1,
+            remainder: 0,
+        };
+        for ticks in 0..24 {
+            assert_both_ways_equal(&start, ticks);
+        }
+    }
+}
+
+fn random_start(rng: &mut Rng) -> Pwm {
+    let cs = rng.below(8) as u8;
+    let n = if cs == 0 { 1 } else { 1 << (cs - 1) };
+    let mut number = || match rng.below(3) {
+        0 => rng.below(40) as u16,
+        1 => 65_535 - rng.below(3) as u16,
+        _ => rng.draw() as u16,
+    };
+    let (max, cmp, counter) = (number(), number(), number());
+    Pwm {
+        cnfg: rng.pick(&[0, 1, 4, 5]),
+        cs,
+        max,
+        cmp,
+        counter,
+        output: rng.chance(50),
+        remainder: rng.below(n) as u8,
+    }
+}
+
+#[test]
+fn at_once_equals_one_by_one_by_chance() {
+    let mut rng = Rng::new(1);
+    for _ in 0..3_000 {
+        let start = random_start(&mut rng);
+        let ticks = rng.below(2_000) as u32;
+        assert_both_ways_equal(&start, ticks);
+    }
+}
+
+#[test]
+fn at_once_equals_one_by_one_on_long_waits() {
+    let mut rng = Rng::new(2);
+    for _ in 0..60 {
+        let start = random_start(&mut rng);
+        let ticks = rng.below(3_000_000) as u32;
+        assert_both_ways_equal(&start, ticks);
+    }
+}
+
+#[test]
+fn a_wait_may_be_cut_anywhere() {
+    let mut rng = Rng::new(3);
+    for _ in 0..20_000 {
+        let start = random_start(&mut rng);
+        let whole = rng.draw() as u32;
+        let first = rng.below(u64::from(whole) + 1) as u32;
+        let (mut cut, mut uncut) = (start.clone(), start);
+        cut.ticks(first);
+        cut.ticks(whole - first);
+        uncut.ticks(whole);
+        assert_eq!(cut, uncut);
+    }
+}
+
+#[test]
+fn the_longest_wait() {
+    // 4,294,967,295 steps of a round of 65,536 from 0 end one before 0.
+    let text = "write select 1
+        write pwm 0 cs 1
+        ticks 4294967295
+        read pwm 0 cntr";
+    assert_eq!(readings(text), [65_535]);
+}
+
+/// Level after each of the first ticks, from a fresh channel with CS 1.
+fn levels(cnfg: u8, max: u16, cmp: u16, ticks: usize) -> Vec<u8> {
+    let mut pwm = Pwm {
+        cnfg,
+        cs: 1,
+        max,
+        cmp,
+        ..Pwm::default()
+    };
+    let level_after_tick = |_| {
+        pwm.tick();
+        pwm.output.into()
+    };
+    (0..ticks).map(level_after_tick).collect()
+}
+
+#[test]
+fn output_by_compare_value() {
+    // The counter starts at 0, so it does not arrive there before the fourth tick.
+    assert_eq!(levels(4, 3, 2, 9), [0, 0, 0, 1, 1, 0, 0, 1, 1]);
+    assert_eq!(levels(5, 3, 2, 9), [0, 1, 1, 0, 0, 1, 1, 0, 0]);
+    assert_eq!(levels(4, 3, 0, 9), [0; 9]);
+    assert_eq!(levels(5, 3, 0, 9), [0, 0, 0, 1, 1, 1, 1, 1, 1]);
+    assert_eq!(levels(4, 3, 3, 9), [0, 0, 0, 1, 1, 1, 0, 1, 1]);
+    assert_eq!(levels(4, 3, 4, 9), [0, 0, 0, 1, 1, 1, 1, 1, 1]);
+    assert_eq!(levels(5, 3, 4, 9), [0; 9]);
+}
+
+#[test]
+fn a_round_of_one_count_arrives_at_zero_each_step() {
+    assert_eq!(levels(4, 0, 1, 3), [1, 1, 1]);
+    assert_eq!(levels(4, 0, 0, 3), [0, 0, 0]);
+    assert_eq!(levels(5, 0, 0, 3), [1, 1, 1]);
+}
+
+#[test]
+fn a_counter_above_the_top_goes_to_zero() {
+    let text = "write select 1
+        write pwm 0 cnfg 4
+        write pwm 0 max 100
+        write pwm 0 cmp 50
+        write pwm 0 cs 1
+        ticks 10
+        write pwm 0 max 5
+        read pwm 0 cntr
+        ticks 1
+        read pwm 0 cntr
+        read pwm 0 level";
+    assert_eq!(readings(text), [10, 0, 1]);
+}
+
+#[test]
+fn mode_0_ignores_max_and_cmp_and_has_no_output() {
+    let text = "write select 1
+        write pwm 0 cnfg 1
+        write pwm 0 max 3
+        write pwm 0 cmp 2
+        write pwm 0 cs 1
+        ticks 65535
+        read pwm 0 cntr
+        ticks 1
+        read pwm 0 cntr
+        read pwm 0 level";
+    assert_eq!(readings(text), [65_535, 0, 0]);
+}
+
+#[test]
+fn writing_mode_0_makes_the_output_0_and_mode_1_leaves_it() {
+    let text = "write select 1
+        write pwm 0 cnfg 4
+        write pwm 0 max 3
+        write pwm 0 cmp 2
+        write pwm 0 cs 1
+        ticks 4
+        read pwm 0 level
+        write pwm 0 cnfg 5          # INV alone moves nothing
+        read pwm 0 level
+        write pwm 0 cnfg 1
+        read pwm 0 level
+        read pwm 0 cntr
+        write pwm 0 cnfg 4
+        read pwm 0 level";
+    assert_eq!(readings(text), [1, 1, 0, 0, 0]);
+}
+
+#[test]
+fn writing_cs_clears_the_remainder_and_other_writes_do_not() {
+    for (write, wanted) in [
+        ("cs 3", 0),
+        ("cs 4", 0),
+        ("cnfg 4", 3),
+        ("max 9", 3),
+        ("cmp 9", 3),
+    ] {
+        let text = format!(
+            "write select 1
+            write pwm 0 cs 3
+            ticks 7
+            write pwm 0 {write}"
+        );
+        let pwm = &run_text(&text).bank.pwms[0];
+        assert_eq!((pwm.counter, pwm.remainder), (1, wanted), "{write}");
+    }
+}
+
+#[test]
+fn every_divider() {
+    for (cs, n) in (1..=7).zip([1, 2, 4, 8, 16, 32, 64]) {
+        let text = format!(
+            "write select 0x4000000000
+            write pwm 19 cs {cs}
+            ticks {}
+            read pwm 19 cntr
+            ticks 1
+            read pwm 19 cntr",
+            3 * n - 1
+        );
+        assert_eq!(readings(&text), [2, 3], "CS {cs}");
+    }
+}
+
+#[test]
+fn off_and_unrouted_channels_stand_still() {
+    let text = "write select 5
+        write pwm 0 cs 2
+        write pwm 1 cs 0
+        ticks 3
+        write select 4
+        ticks 100
+        write select 5";
+    let bank = run_text(text).bank;
+    assert_eq!((bank.pwms[0].counter, bank.pwms[0].remainder), (1, 1));
+    assert_eq!((bank.pwms[1].counter, bank.pwms[1].remainder), (0, 0));
+}
+
+#[test]
+fn twenty_channels_tick_by_themselves() {
+    let mut text = String::from("write select 0x5555555555\n");
+    for channel in 0..20 {
+        text += &format!("write pwm {channel} cs {}\n", channel % 8);
+    }
+    text += "ticks 640\n";
+    for (channel, pwm) in run_text(&text).bank.pwms.iter().enumerate() {
+        let wanted = [0, 640, 320, 160, 80, 40, 20, 10][channel % 8];
+        assert_eq!(pwm.counter, wanted, "PWM {channel}");
+    }
+}

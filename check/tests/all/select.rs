@@ -1,0 +1,84 @@
+use rivandoze_check::generate::Rng;
+use rivandoze_check::reference::select::Select;
+
+fn function(select: u64, pin: usize) -> u64 {
+    (select >> (2 * pin)) & 3
+}
+
+/// Pin by pin, as paper 01 lists it.
+fn allowed(select: u64) -> bool {
+    let is = |wanted: u64| move |pin: &usize| function(select, *pin) == wanted;
+    let stray = (0..20)
+        .filter(is(3))
+        .any(|pin| ![5, 6, 7, 14, 15].contains(&pin));
+    let spi = [5, 6, 7].iter().filter(|pin| is(3)(pin)).count();
+    let i2c = [14, 15].iter().filter(|pin| is(3)(pin)).count();
+    let half_pair = (0..10).any(|i| is(2)(&(2 * i)) != is(2)(&(2 * i + 1)));
+    !stray && [0, 3].contains(&spi) && [0, 2].contains(&i2c) && !half_pair
+}
+
+fn assert_same(value: u64) {
+    let select = Select(value);
+    assert_eq!(select.allowed(), allowed(value), "{value:#x}");
+    if !select.allowed() {
+        return;
+    }
+    for i in 0..10 {
+        let pair = function(value, 2 * i) == 2 && function(value, 2 * i + 1) == 2;
+        assert_eq!(select.encoder_routed(i), pair, "encoder {i} in {value:#x}");
+    }
+    for i in 0..20 {
+        let one = function(value, i) == 1;
+        assert_eq!(select.pwm_routed(i), one, "PWM {i} in {value:#x}");
+    }
+    let pwms: Vec<usize> = (0..20).filter(|&i| select.pwm_routed(i)).collect();
+    assert_eq!(select.routed_pwms().collect::<Vec<_>>(), pwms);
+    let encoders: Vec<usize> = (0..10).filter(|&i| select.encoder_routed(i)).collect();
+    let newly = select.newly_routed_encoders(Select(0));
+    assert_eq!(newly.collect::<Vec<_>>(), encoders);
+    assert_eq!(select.newly_routed_encoders(select).count(), 0);
+    let serial = function(value, 14) == 3 && function(value, 15) == 3;
+    assert_eq!(select.i2c_routed(), serial, "I2C in {value:#x}");
+}
+
+#[test]
+fn every_pair_of_pins_and_every_serial_group() {
+    for pair in 0..10 {
+        for value in 0..16 {
+            assert_same(value << (4 * pair));
+        }
+    }
+    for value in 0..256 {
+        assert_same(value << 8);
+    }
+}
+
+#[test]
+fn allowed_values_and_all_that_are_one_bit_away() {
+    let mut rng = Rng::new(5);
+    for _ in 0..3_000 {
+        let mut value = 0;
+        for pair in 0..10 {
+            value |= rng.pick(&[0, 1, 4, 5, 10]) << (4 * pair);
+        }
+        if rng.chance(50) {
+            value = value & !0xFF00 | 0xFC00 | rng.below(2) << 8;
+        }
+        if rng.chance(50) {
+            value |= 0xF000_0000;
+        }
+        assert!(Select(value).allowed(), "{value:#x}");
+        assert_same(value);
+        for bit in 0..40 {
+            assert_same(value ^ 1 << bit);
+        }
+    }
+}
+
+#[test]
+fn any_value() {
+    let mut rng = Rng::new(6);
+    for _ in 0..100_000 {
+        assert_same(rng.draw() >> 24);
+    }
+}

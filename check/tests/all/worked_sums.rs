@@ -1,0 +1,192 @@
+//! The sums to check by hand, each.
+
+use crate::common::{log, readings, run, run_text};
+use rivandoze_check::reference::{
+    brute_pwm, brute_spi, find_pwm, find_spi, rate_pwm, rate_spi, replay, Answer, Bank, Pair,
+};
+
+const WHOLE_LOG: [u8; 88] = [
+    0x01, 0, 0, 0, 0, 0, 0, 0, 0x0A, 0, 0, 0, 0, 0, 0, 0, //
+    0x01, 1, 0, 0, 0, 0, 0, 0, 0x01, 0, 0, 0, 0, 0, 0, 0, //
+    0x03, 1, 0, 0, 0, 0, 0, 0, 0x00, 0, 0, 0, 0, 0, 0, 0, //
+    0x03, 1, 0, 0, 0, 0, 0, 0, 0x01, 0, 0, 0, 0, 0, 0, 0, //
+    0x02, 1, 0, 2, 0, 0, 0, 0, 0x00, 0, 0, 0, 0, 0, 0, 0, //
+    0x50, 0, 0, 0, 1, 0, 0x51, 0x4D,
+];
+
+fn pair(choice: u8, x: u16, period: u64) -> Result<Pair, u8> {
+    Ok(Pair { choice, x, period })
+}
+
+#[test]
+fn pwm_rates() {
+    for find in [find_pwm, brute_pwm] {
+        assert_eq!(find(1_000, 0), pair(1, 39_999, 40_000));
+        assert_eq!(find(40, 0), pair(5, 62_499, 1_000_000));
+        assert_eq!(find(39, 0), Err(12));
+        assert_eq!(find(40_001, 0), Err(12));
+        assert_eq!(find(610, 3), Err(14));
+        assert_eq!(find(610, 4), pair(2, 32_786, 65_574));
+    }
+}
+
+#[test]
+fn spi_rates() {
+    for find in [find_spi, brute_spi] {
+        assert_eq!(find(4_000_000, 0), pair(1, 4, 10));
+        assert_eq!(find(40, 0), pair(4, 62_499, 1_000_000));
+        assert_eq!(find(3_650_000, 86_757), Err(14));
+        assert_eq!(find(3_650_000, 86_758), pair(1, 5, 12));
+    }
+}
+
+#[test]
+fn rates_of_the_found_pairs() {
+    assert_eq!(rate_pwm(1, 39_999), Ok((40_000_000, 40_000)));
+    assert_eq!(rate_pwm(5, 62_499), Ok((40_000_000, 1_000_000)));
+    assert_eq!(rate_spi(1, 4), Ok((40_000_000, 10)));
+    assert_eq!(rate_spi(4, 62_499), Ok((40_000_000, 1_000_000)));
+}
+
+#[test]
+fn rates_from_registers_have_no_range() {
+    assert_eq!(rate_pwm(1, 0), Ok((40_000_000, 1)));
+    assert_eq!(rate_pwm(7, 65_535), Ok((40_000_000, 4_194_304)));
+    assert_eq!(rate_spi(1, 0), Ok((40_000_000, 2)));
+    assert_eq!(rate_spi(7, 65_535), Ok((40_000_000, 8_388_608)));
+}
+
+#[test]
+fn four_places_forward() {
+    let text = "write select 0xA
+        write encoder 0 cnfg 1
+        pins encoder 0 0
+        pins encoder 0 1
+        pins encoder 0 3
+        pins encoder 0 2
+        pins encoder 0 0
+        read encoder 0 cntr
+        read encoder 0 stat";
+    assert_eq!(readings(text), [4, 0]);
+}
+
+#[test]
+fn four_places_back() {
+    let text = "write select 0xA
+        write encoder 0 cnfg 1
+        pins encoder 0 0
+        pins encoder 0 2
+        pins encoder 0 3
+        pins encoder 0 1
+        pins encoder 0 0
+        read encoder 0 cntr
+        read encoder 0 stat";
+    assert_eq!(readings(text), [4_294_967_292, 1]);
+}
+
+#[test]
+fn double_change() {
+    let text = "write select 0xA
+        write encoder 0 cnfg 1
+        pins encoder 0 0
+        pins encoder 0 3
+        read encoder 0 cntr
+        read encoder 0 stat";
+    assert_eq!(readings(text), [0, 2]);
+}
+
+#[test]
+fn five_ticks_of_pwm() {
+    let text = "write select 1
+        write pwm 0 cs 1
+        write pwm 0 cnfg 4
+        write pwm 0 max 3
+        write pwm 0 cmp 2
+        ticks 5
+        read pwm 0 cntr
+        read pwm 0 level";
+    assert_eq!(readings(text), [1, 1]);
+}
+
+#[test]
+fn five_ticks_by_two() {
+    let text = "write select 1
+        write pwm 0 cnfg 4
+        write pwm 0 max 3
+        write pwm 0 cmp 2
+        write pwm 0 cs 2
+        ticks 5";
+    let pwm = &run_text(text).bank.pwms[0];
+    assert_eq!((pwm.counter, pwm.remainder), (2, 1));
+}
+
+#[test]
+fn log_lengths() {
+    assert_eq!(run(&[0; 7]).refusal, 2);
+    assert_eq!(run(&[0; 32_769]).refusal, 1);
+    let bare = [0, 0, 0, 0, 1, 0, 0x51, 0x4D];
+    let run = run(&bare);
+    assert_eq!((run.refusal, run.applied), (0, 0));
+    assert_eq!(run.bank, Bank::default());
+}
+
+#[test]
+fn whole_log() {
+    let mut out = [0x77; 24];
+    let answer = replay(&WHOLE_LOG, &mut out);
+    let wanted = Answer {
+        refusal: 0,
+        applied: 5,
+    };
+    assert_eq!(answer, wanted);
+    assert_eq!(out[..8], [1, 0, 0, 0, 0, 0, 0, 0]);
+    assert_eq!(out[8..], [0x77; 16]);
+}
+
+#[test]
+fn whole_log_in_words() {
+    let text = "write select 10
+        write encoder 0 cnfg 1
+        pins encoder 0 0
+        pins encoder 0 1
+        read encoder 0 cntr";
+    assert_eq!(log(text), WHOLE_LOG);
+}
+
+#[test]
+fn fresh_state_reads_as_zero() {
+    let mut text = String::from("read select\nread i2c addr\nread i2c cntl\nread i2c state\n");
+    for channel in 0..10 {
+        for register in ["cnfg", "stat", "cntr"] {
+            text += &format!("read encoder {channel} {register}\n");
+        }
+    }
+    for channel in 0..20 {
+        for register in ["cnfg", "cs", "max", "cmp", "cntr", "level"] {
+            text += &format!("read pwm {channel} {register}\n");
+        }
+    }
+    assert_eq!(readings(&text), [0; 4 + 30 + 120]);
+}
+
+#[test]
+fn written_registers_read_back() {
+    let text = "write select 0xF00000A5
+        write encoder 1 cnfg 31
+        write pwm 1 cnfg 5
+        write pwm 1 cs 7
+        write pwm 1 max 65535
+        write pwm 1 cmp 65534
+        write i2c addr 255
+        write i2c cntl 15
+        read select
+        read encoder 1 cnfg
+        read pwm 1 cnfg
+        read pwm 1 cs
+        read pwm 1 max
+        read pwm 1 cmp
+        read i2c addr
+        read i2c cntl";
+    let wanted = [0xF000_00A5, 31, 5, 7, 65_535, 65_534, 255, 15];
+    assert_eq!(readings(text), wanted);
+}

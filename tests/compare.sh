@@ -1,0 +1,112 @@
+#!/usr/bin/env bash
+# The replay, from outside: the library for C against the second program, on made, damaged and exhaustive logs. Every byte of the output,
+# of what lies around it and of the log is compared.
+#   tests/compare.sh                                what the gate runs
+#   tests/compare.sh seconds N                      logs by chance for N seconds
+#   tests/compare.sh rerun FILE OUT PATTERN PLACE   one log again, as a failed test has printed it
+# SEED chooses the logs. Logs that fail are written to target/failed.
+set -u
+cd "$(dirname "$0")/.." || exit 2
+. check/tools.sh
+need cargo cargo
+work=$(mktemp -d)
+trap 'rm -rf "$work"' EXIT
+seed=${SEED:-$(date +%s)}
+programs=target/check/release
+
+build_driver() {
+    $cc -std=c99 -O2 -Wall -Wextra -Wpedantic -Werror -Iinclude "${@:2}" -o "$1" check/compare/driver.c target/staticlib/librivandoze.a
+}
+
+build() {
+    must 'compare: the library builds' rt_builds
+    must 'compare: the second program builds' \
+        cargo build --release --offline --jobs 1 --manifest-path check/Cargo.toml --target-dir target/check
+    must 'compare: the driver builds' build_driver "$work/driver"
+}
+
+# against NAME MODE DRIVER..: the comparison's own lines are the tests.
+against() {
+    "$programs/compare" "$2" "$seed" target/failed "${@:3}" | sed "s/^\(ok\|FAIL\) compare:/\1 $1:/"
+    [ "${PIPESTATUS[0]}" -eq 0 ] || failed=1
+}
+
+# The comparison itself: a right driver is let pass, and each with a mistake is seen.
+test_of_the_tests() {
+    "$programs/compare" short "$seed" "$work" "$programs/stand-in" none >"$work/out" 2>&1
+    same 'compare: a driver without a mistake is let pass' 0 $?
+    local mistake
+    for mistake in $("$programs/stand-in" list); do
+        "$programs/compare" short "$seed" "$work" "$programs/stand-in" "$mistake" >"$work/out" 2>&1
+        same "compare: a driver with the mistake $mistake is seen" "1 1" "$? $(grep -c '^FAIL ' "$work/out")"
+    done
+    "$programs/compare" short "$seed" "$work" false >"$work/out" 2>&1
+    same 'compare: a driver that ends without an answer is seen' "1 1" "$? $(grep -c '^FAIL ' "$work/out")"
+    again
+    fences
+}
+
+# A saved log fails again by the printed command's words, and not with a right driver.
+again() {
+    "$programs/compare" short "$seed" "$work/saved" "$programs/stand-in" sign-flipped >"$work/out"
+    local words
+    words=$(sed -n 's/^ *again: tests\/compare.sh rerun //p' "$work/out")
+    "$programs/compare" rerun $words "$programs/stand-in" sign-flipped >"$work/out" 2>&1
+    same 'compare: a saved log fails again' 1 $?
+    "$programs/compare" rerun $words "$programs/stand-in" none >"$work/out" 2>&1
+    same 'compare: a saved log passes with a right driver' 0 $?
+    "$programs/rvz-check" from-text <"${words%%.log*}.txt" | cmp -s - "${words%% *}"
+    same 'compare: a saved log has its text beside it' 0 $?
+}
+
+# The driver itself: a library that touches a byte which it may not is seen.
+fences() {
+    must 'compare: the driver builds with a library that touches what it may not' \
+        build_driver "$work/wrong" -Wl,--wrap=rvz_replay check/compare/wrong.c
+    local wrong
+    ulimit -c 0
+    for wrong in {reads,writes}-{before,behind}-output reads-{before,behind}-log writes-log writes-output; do
+        WRONG=$wrong "$programs/compare" short "$seed" "$work" "${runner[@]}" "$work/wrong" >"$work/out" 2>&1
+        same "compare: a library that $wrong is seen" "1 1" "$? $(grep -c '^FAIL ' "$work/out")"
+    done
+    WRONG=not "$programs/compare" few "$seed" "$work" "${runner[@]}" "$work/wrong" >"$work/out" 2>&1
+    same 'compare: the same with nothing touched is let pass' 0 $?
+}
+
+# The caller under the tools that watch memory. AddressSanitizer and valgrind cannot watch x86-64 code under emulation.
+watched() {
+    must 'compare: the driver builds under UndefinedBehaviorSanitizer' \
+        build_driver "$work/watched" -g -fsanitize=undefined -fno-sanitize-recover=all
+    against 'compare under UndefinedBehaviorSanitizer' short "${runner[@]}" "$work/watched"
+    if [ "$(uname -m)" != x86_64 ]; then
+        echo 'not run on this machine: AddressSanitizer, valgrind'
+        return
+    fi
+    must 'compare: the driver builds under AddressSanitizer' \
+        build_driver "$work/watched" -g -fsanitize=address,undefined -fno-sanitize-recover=all
+    against 'compare under AddressSanitizer' short "$work/watched"
+    need valgrind valgrind
+    against 'compare under valgrind' few valgrind --quiet --error-exitcode=9 --leak-check=full "$work/driver"
+}
+
+case ${1:-} in
+'')
+    build
+    test_of_the_tests
+    against compare full "${runner[@]}" "$work/driver"
+    watched
+    ;;
+seconds)
+    build
+    "$programs/compare" seconds "${2:?a number of seconds}" "$seed" target/failed "${runner[@]}" "$work/driver" || failed=1
+    ;;
+rerun)
+    build
+    "$programs/compare" "$@" "${runner[@]}" "$work/driver" || failed=1
+    ;;
+*)
+    sed -n '2,/^set/s/^# \{0,1\}//p' "$0"
+    exit 2
+    ;;
+esac
+exit $failed

@@ -1,0 +1,90 @@
+#!/usr/bin/env bash
+# The examples as a user meets them: built by gcc and clang, run on every sample log, and built once more against the installed files.
+set -u
+cd "$(dirname "$0")/.." || exit 2
+. check/tools.sh
+need cargo cargo
+need clang clang
+need make make
+need pkg-config pkg-config
+work=$(mktemp -d)
+trap 'rm -rf "$work"' EXIT
+second=target/check/release/rvz-check
+strict=(-std=c99 -O2 -Wall -Wextra -Wpedantic -Werror)
+cxx=(-x c++ -std=c++11 -Wall -Wextra -Wpedantic -Werror -fsyntax-only -Iinclude)
+if [ "$(uname -m)" = x86_64 ]; then
+    clang=(clang)
+else
+    clang=(clang --target=x86_64-linux-gnu)
+fi
+
+build() {
+    must 'examples: the library builds' rt_builds
+    must 'examples: the second program builds' \
+        cargo build --release --offline --jobs 1 --manifest-path check/Cargo.toml --target-dir target/check
+    must 'examples: scan.c is C99 by gcc' $cc "${strict[@]}" -Iinclude -o "$work/gcc" examples/scan.c target/staticlib/librivandoze.a
+    must 'examples: scan.c is C99 by clang' "${clang[@]}" "${strict[@]}" -Iinclude -o "$work/clang" examples/scan.c target/staticlib/librivandoze.a
+    must 'examples: scan.c and the header are C++ by g++' g++ "${cxx[@]}" examples/scan.c
+    must 'examples: scan.c and the header are C++ by clang' clang++ "${cxx[@]}" examples/scan.c
+}
+
+# scans SCAN NAME LOG: what it prints and how it ends against the file beside the log.
+scans() {
+    local wanted=${3%.log}.out status=0
+    [[ $3 != */refused-* ]] || status=1
+    same "$2" "$(cat "$wanted") status $status" "$(run64 "$1" "$3") status $?"
+}
+
+samples() {
+    local log name
+    for log in examples/logs/*.log; do
+        name=$(basename "$log" .log)
+        "$second" from-text <"${log%.log}.txt" | cmp -s - "$log"
+        same "examples: $name is what its text says" 0 $?
+        scans "$work/gcc" "examples: scan, by gcc, of $name" "$log"
+        scans "$work/clang" "examples: scan, by clang, of $name" "$log"
+        same "examples: the readings of $name are the second program's" "$("$second" <"$log" | grep -v applied)" \
+            "$(sed -n 's/^record .* = \([0-9]*\).*/\1/p' "${log%.log}.out")"
+    done
+}
+
+other_files() {
+    head -c 32769 /dev/zero >"$work/long"
+    same 'examples: scan of a log that is too long' 'the log is refused by 1: the log is longer than 32,768 bytes' \
+        "$(run64 "$work/gcc" "$work/long")"
+    run64 "$work/gcc" "$work/none" 2>"$work/out"
+    same 'examples: scan of no file' 2 $?
+    run64 "$work/gcc" 2>"$work/out"
+    same 'examples: scan without a file' "2 usage: scan FILE" "$? $(cat "$work/out")"
+}
+
+# The flags that pkg-config has for the files installed under a prefix.
+flags() {
+    PKG_CONFIG_PATH=$work/usr/lib/pkgconfig pkg-config "$@" rivandoze
+}
+
+build_installed() {
+    local words
+    words=$(flags --cflags --libs) && $cc "${strict[@]}" -o "$work/installed" examples/scan.c $words
+}
+
+installed() {
+    must 'examples: make install' make --no-print-directory install PREFIX="$work/usr"
+    same 'examples: what is installed' 'bin/rvz include/rivandoze.h lib/librivandoze.a lib/pkgconfig/rivandoze.pc' \
+        "$(cd "$work/usr" && find . -type f | sed 's|^\./||' | sort | xargs)"
+    must 'examples: scan.c builds against the installed files' build_installed
+    scans "$work/installed" 'examples: scan, installed, of turns' examples/logs/turns.log
+    scans "$work/installed" 'examples: scan, installed, of refused-9' examples/logs/refused-9.log
+    same 'examples: the installed program' $'1\napplied 5 refused 0' "$(run64 "$work/usr/bin/rvz" <examples/logs/whole.log)"
+
+    must 'examples: make install for a package' make --no-print-directory install DESTDIR="$work/stage" PREFIX=/usr
+    same 'examples: a package has the final prefix' 'prefix=/usr' "$(head -n 1 "$work/stage/usr/lib/pkgconfig/rivandoze.pc")"
+    must 'examples: make uninstall' make --no-print-directory uninstall PREFIX="$work/usr"
+    same 'examples: what is left' '' "$(find "$work/usr" -type f)"
+}
+
+build
+samples
+other_files
+installed
+exit $failed
