@@ -31,17 +31,22 @@ against() {
     [ "${PIPESTATUS[0]}" -eq 0 ] || failed=1
 }
 
+# verdict DRIVER..: the status of a short comparison, how many tests failed, and for how many the driver gave no answer.
+verdict() {
+    "$programs/compare" short "$seed" "$work" "$@" >"$work/out" 2>&1
+    echo "$? $(grep -c '^FAIL ' "$work/out") $(grep -c 'without an answer' "$work/out")"
+}
+
 # The comparison itself: a right driver is let pass, and each with a mistake is seen.
 test_of_the_tests() {
-    "$programs/compare" short "$seed" "$work" "$programs/stand-in" none >"$work/out" 2>&1
-    same 'compare: a driver without a mistake is let pass' 0 $?
-    local mistake
-    for mistake in $("$programs/stand-in" list); do
-        "$programs/compare" short "$seed" "$work" "$programs/stand-in" "$mistake" >"$work/out" 2>&1
-        same "compare: a driver with the mistake $mistake is seen" "1 1" "$? $(grep -c '^FAIL ' "$work/out")"
+    same 'compare: a driver without a mistake is let pass' '0 0 0' "$(verdict "$programs/stand-in" none)"
+    local mistakes mistake
+    mapfile -t mistakes < <("$programs/stand-in" list)
+    same 'compare: there are mistakes to make' 62 ${#mistakes[@]}
+    for mistake in "${mistakes[@]}"; do
+        same "compare: a driver with the mistake $mistake is seen" '1 1 0' "$(verdict "$programs/stand-in" "$mistake")"
     done
-    "$programs/compare" short "$seed" "$work" false >"$work/out" 2>&1
-    same 'compare: a driver that ends without an answer is seen' "1 1" "$? $(grep -c '^FAIL ' "$work/out")"
+    same 'compare: a driver that ends without an answer is seen' '1 1 1' "$(verdict false)"
     again
     fences
 }
@@ -66,11 +71,9 @@ fences() {
     local wrong
     ulimit -c 0
     for wrong in {reads,writes}-{before,behind}-output reads-{before,behind}-log writes-log writes-output; do
-        WRONG=$wrong "$programs/compare" short "$seed" "$work" "${runner[@]}" "$work/wrong" >"$work/out" 2>&1
-        same "compare: a library that $wrong is seen" "1 1" "$? $(grep -c '^FAIL ' "$work/out")"
+        same "compare: a library that $wrong is seen" '1 1' "$(WRONG=$wrong verdict "${runner[@]}" "$work/wrong" | cut -d' ' -f1,2)"
     done
-    WRONG=not "$programs/compare" few "$seed" "$work" "${runner[@]}" "$work/wrong" >"$work/out" 2>&1
-    same 'compare: the same with nothing touched is let pass' 0 $?
+    same 'compare: the same with nothing touched is let pass' '0 0 0' "$(WRONG=not verdict "${runner[@]}" "$work/wrong")"
 }
 
 # The rate calls: all of PWM and many of SPI, and that one wrong answer among them is seen.

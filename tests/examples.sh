@@ -1,5 +1,6 @@
 #!/usr/bin/env bash
-# The examples as a user meets them: built by gcc and clang, run on every sample log, and built once more against the installed files.
+# The examples as a user meets them: built by gcc and clang, run on every sample log, and built once more against the installed files;
+# and what the README shows.
 set -u
 cd "$(dirname "$0")/.." || exit 2
 . check/tools.sh
@@ -80,8 +81,26 @@ installed() {
     same 'examples: what is left' '' "$(find "$work/usr" -type f)"
 }
 
+# The README's C program, and each command line with what it says is printed.
+readme() {
+    local example command shown
+    sed -n '/^```c$/,/^```$/{/^```/d;p}' README.md >"$work/readme.c"
+    must 'examples: the C program of the README builds' $cc "${strict[@]}" -Iinclude -o "$work/readme" "$work/readme.c" target/staticlib/librivandoze.a
+    same 'examples: the C program of the README' $'first reading 1\napplied 5 refused 0' "$(run64 "$work/readme" <examples/logs/whole.log)"
+    while IFS='#' read -r command shown; do
+        read -ra example <<<"${command#*rvz}"
+        shown=${shown# }
+        same "examples: the README's rvz ${example[*]}" "${shown%%:*}" "$(run64 target/bin/rvz "${example[@]}" </dev/null)"
+    done < <(grep '^    rvz [a-z]' README.md)
+    same 'examples: the logs that the README writes by printf' 'applied 0 refused 5 1 applied 5 refused 0' \
+        "$(sed -n 's/^    \(printf .*\) | target\/bin\/rvz.*/\1/p' README.md | while read -r command; do
+            bash -c "$command" | run64 target/bin/rvz
+        done | xargs)"
+}
+
 build
 samples
 other_files
 installed
+readme
 exit $failed

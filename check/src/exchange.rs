@@ -73,6 +73,16 @@ impl Area {
         &mut self.bytes[self.before..][..self.out_len]
     }
 
+    /// The guard byte before the output's first, if there are guards there.
+    pub fn guard_before(&mut self) -> Option<&mut u8> {
+        self.bytes.get_mut(self.before.checked_sub(1)?)
+    }
+
+    /// The guard byte behind the output's last, if there are guards there.
+    pub fn guard_behind(&mut self) -> Option<&mut u8> {
+        self.bytes.get_mut(self.before + self.out_len)
+    }
+
     /// Where a byte of the area lies, counted from the output's first.
     pub fn from_out(&self, index: usize) -> isize {
         index as isize - self.before as isize

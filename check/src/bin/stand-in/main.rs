@@ -49,21 +49,17 @@ fn answer_all(mistake: Option<Mistake>) -> io::Result<()> {
 fn answer(request: &Request, mistake: Option<Mistake>) -> Answer {
     let mut area = request.area();
     let word = replay::replay(mistake, &request.log, area.out());
-    let last = area.bytes.len();
-    match mistake {
-        Some(Mistake::ByteBehindOutput) if area.from_out(last) > area.out().len() as isize => {
-            let behind = last - rivandoze_check::exchange::GUARD_LEN;
-            area.bytes[behind] ^= 1;
-        }
-        Some(Mistake::ByteBeforeOutput) if area.from_out(0) < 0 => {
-            let before = rivandoze_check::exchange::GUARD_LEN - 1;
-            area.bytes[before] ^= 1;
-        }
-        _ => {}
+    let touched = match mistake {
+        Some(Mistake::ByteBehindOutput) => area.guard_behind(),
+        Some(Mistake::ByteBeforeOutput) => area.guard_before(),
+        _ => None,
+    };
+    if let Some(byte) = touched {
+        *byte ^= 1;
     }
     Answer {
         word,
-        log_kept: mistake != Some(Mistake::LogChanged) || request.log.is_empty(),
+        log_kept: mistake != Some(Mistake::LogChanged),
         area,
     }
 }
