@@ -96,7 +96,8 @@ watched() {
     fi
     must 'compare: the driver builds under AddressSanitizer' \
         build_driver "$work/watched" -g -fsanitize=address,undefined -fno-sanitize-recover=all
-    against 'compare under AddressSanitizer' short "$work/watched"
+    # Leaks are left to valgrind.
+    ASAN_OPTIONS=detect_leaks=0 against 'compare under AddressSanitizer' short "$work/watched"
     need valgrind valgrind
     against 'compare under valgrind' few valgrind --quiet --error-exitcode=9 --leak-check=full "$work/driver"
 }

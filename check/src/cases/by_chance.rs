@@ -2,8 +2,8 @@
 
 use super::{lent, lent_well, Requests, Size};
 use crate::generate::{change_bytes, damage, flip_bits, generate, Rng, Settings};
-use crate::reference::log::{build, records, RECORDS_MAX, TRAILER_LEN};
-use crate::reference::record::{Fields, RECORD_LEN, SELECT, TICKS};
+use crate::reference::log::{build, records, Trailer, LOG_MAX, RECORDS_MAX, TRAILER_LEN};
+use crate::reference::record::{Fields, ENCODER, I2C, PWM, RECORD_LEN, SELECT, TICKS};
 
 /// The longest wait of most logs: short ones meet every edge of small MAX and CMP.
 const SHORT_WAIT: u64 = 300;
@@ -12,15 +12,20 @@ const LONG_WAIT: u64 = 70_000;
 
 pub fn generated(mut rng: Rng, size: Size) -> Requests {
     Box::new((0..size.of(4_000, 200_000)).map(move |index| {
-        let log = generate(rng.draw(), &settings(index));
+        let mut log = generate(rng.draw(), &settings(index));
+        if rng.chance(50) {
+            log = with_end_read(&log);
+        }
         lent_well(log, &mut rng)
     }))
 }
 
-/// Five logs in a hundred are full; most are short, so that there can be many.
+/// Five logs in a hundred are full, or will be; most are short, so that there can be many.
 fn settings(index: u64) -> Settings {
+    let nearly_full = RECORDS_MAX - all_reads().count();
     let (least_records, most_records) = match index % 100 {
-        0..=4 => (RECORDS_MAX, RECORDS_MAX),
+        0..=1 => (nearly_full, nearly_full),
+        2..=4 => (RECORDS_MAX, RECORDS_MAX),
         5..=14 => (1, RECORDS_MAX),
         15..=49 => (1, 400),
         _ => (1, 80),
@@ -32,6 +37,29 @@ fn settings(index: u64) -> Settings {
         most_ticks: if waits_long { LONG_WAIT } else { SHORT_WAIT },
         ..Settings::default()
     }
+}
+
+/// The log, and behind its records a read of every register, as far as there is room.
+fn with_end_read(log: &[u8]) -> Vec<u8> {
+    let (in_front, trailer) = Trailer::split_off(log).expect("a made log has a trailer");
+    let room = (LOG_MAX - log.len()) / RECORD_LEN;
+    let reads: Vec<_> = all_reads().take(room).map(Fields::to_bytes).collect();
+    let distance = trailer.distance + (reads.len() * RECORD_LEN) as u32;
+    [in_front, &reads.concat(), &Trailer::of(distance).to_bytes()].concat()
+}
+
+/// A read of each register that can be read, of each channel.
+fn all_reads() -> impl Iterator<Item = Fields> {
+    let of = |block, channels: u8, registers: &'static [u8]| {
+        (0..channels).flat_map(move |channel| {
+            let read = move |&register| Fields::read(block, channel, register);
+            registers.iter().map(read)
+        })
+    };
+    of(SELECT, 1, &[0])
+        .chain(of(ENCODER, 10, &[0, 1, 2]))
+        .chain(of(PWM, 20, &[0, 1, 2, 3, 4, 5]))
+        .chain(of(I2C, 1, &[0, 1, 3]))
 }
 
 fn short_log(rng: &mut Rng) -> Vec<u8> {

@@ -47,7 +47,26 @@ fn every_refusal_and_every_place_comes_up() {
 fn full_logs_are_among_the_made_ones() {
     let made = FAMILIES[0].requests(5, Size::Short);
     let full = made.filter(|request| word(request) == (RECORDS_MAX as u64) << 8);
-    assert!(full.count() >= 100);
+    assert!(full.count() > 60);
+}
+
+/// At the end of many a log every register is read: SELECT, 3 of 10 encoders, 6 of 20 PWMs, 3 of I2C.
+#[test]
+fn end_states_are_read_whole() {
+    let (mut whole, mut whole_and_full) = (0, 0);
+    for request in FAMILIES[0].requests(5, Size::Short) {
+        let all: Vec<_> = records(&request.log).expect("a made log").collect();
+        let end = &all[all.len().saturating_sub(154)..];
+        let read: BTreeSet<_> = end.iter().filter(|record| record[0] == 2).collect();
+        if read.len() == 154 {
+            whole += 1;
+            whole_and_full += usize::from(all.len() == RECORDS_MAX);
+        }
+    }
+    assert!(
+        whole > 1_500 && whole_and_full > 20,
+        "{whole}, {whole_and_full}"
+    );
 }
 
 #[test]
