@@ -67,6 +67,7 @@ pub const FAMILIES: &[Family] = &[
         by_chance::random_bytes
     ),
     family!("random SELECT values", true, by_chance::random_selects),
+    family!("long waits", true, by_chance::long_waits),
     family!("every truncation", false, in_order::truncations),
     family!("lengths", false, in_order::lengths),
     family!("every distance", false, in_order::distances),

@@ -7,8 +7,11 @@ use crate::reference::record::{Fields, ENCODER, I2C, PWM, RECORD_LEN, SELECT, TI
 
 /// The longest wait of most logs: short ones meet every edge of small MAX and CMP.
 const SHORT_WAIT: u64 = 300;
-/// The longest wait of some logs, beyond the highest counter. The library takes a wait tick by tick.
+/// The longest wait of some logs, beyond the highest counter. The library takes the wait of a channel
+/// that runs tick by tick.
 const LONG_WAIT: u64 = 70_000;
+/// The longest wait of logs where only two channels run.
+const LONGEST_WAIT: u64 = 200_000;
 
 pub fn generated(mut rng: Rng, size: Size) -> Requests {
     Box::new((0..size.of(4_000, 200_000)).map(move |index| {
@@ -175,6 +178,31 @@ pub fn random_selects(mut rng: Rng, size: Size) -> Requests {
         ];
         let log = build(&[], &records.map(Fields::to_bytes));
         lent(log, 8, &mut rng)
+    }))
+}
+
+/// Two PWM channels of any settings, with waits in which a counter comes round more than once.
+pub fn long_waits(mut rng: Rng, size: Size) -> Requests {
+    Box::new((0..size.of(20, 200)).map(move |_| {
+        let mut records = vec![Fields::write(SELECT, 0, 0, 0x55_5555_5555)];
+        let first = rng.below(19) as u8;
+        let channels = [first, first + 1];
+        for channel in channels {
+            let cnfg = rng.pick(&[0, 4, 4, 5, 5]);
+            let (cs, max, cmp) = (rng.between(1, 7), rng.below(65_536), rng.below(65_536));
+            for (register, value) in (0..).zip([cnfg, cs, max, cmp]) {
+                records.push(Fields::write(PWM, channel, register, value));
+            }
+        }
+        for _ in 0..6 {
+            records.push(Fields::ticks(rng.below(LONGEST_WAIT)));
+            for channel in channels {
+                records.push(Fields::read(PWM, channel, 4));
+                records.push(Fields::read(PWM, channel, 5));
+            }
+        }
+        let bytes: Vec<_> = records.into_iter().map(Fields::to_bytes).collect();
+        lent_well(build(&[], &bytes), &mut rng)
     }))
 }
 

@@ -178,7 +178,7 @@ fn log_with_reads(reads: usize, rng: &mut Rng) -> Vec<u8> {
     log_of(&records)
 }
 
-const VALUES: [u64; 21] = [
+const VALUES: [u64; 22] = [
     0,
     1,
     2,
@@ -196,6 +196,7 @@ const VALUES: [u64; 21] = [
     256,
     65_535,
     65_536,
+    0xFFFF_FFFF,
     0xFFFF_FFFF + 1,
     1 << 40,
     1 << 63,

@@ -5,6 +5,7 @@ use rivandoze_check::exchange::{Answer, Request, PLACES};
 use rivandoze_check::packed;
 use rivandoze_check::reference::log::{records, RECORDS_MAX};
 use rivandoze_check::reference::record::{Fields, Record};
+use rivandoze_check::reference::Bank;
 use std::collections::BTreeSet;
 
 fn short() -> impl Iterator<Item = Request> {
@@ -83,15 +84,23 @@ fn outputs_are_enough_to_the_byte_or_one_byte_short() {
     }
 }
 
-/// The library may take a wait tick by tick.
+/// The library takes the wait of a channel that runs tick by tick.
 #[test]
-fn no_wait_is_endless() {
+fn no_log_takes_long() {
     for request in short() {
+        let mut bank = Bank::default();
+        let mut ticks = 0;
         for bytes in records(&request.log).into_iter().flatten() {
-            if let Ok(Record::Ticks(value)) = Fields::from_bytes(bytes).decode() {
-                assert!(value <= 70_000 || value > u64::from(u32::MAX));
+            let record = match Fields::from_bytes(bytes).decode() {
+                Ok(record) if bank.apply(record).is_ok() => record,
+                _ => break,
+            };
+            if let Record::Ticks(wait) = record {
+                let runs = |&channel: &usize| bank.pwms[channel].cs != 0;
+                ticks += wait * bank.select.routed_pwms().filter(runs).count() as u64;
             }
         }
+        assert!(ticks < 20_000_000, "{ticks}");
     }
 }
 

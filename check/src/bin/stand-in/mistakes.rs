@@ -58,6 +58,7 @@ pub enum Mistake {
     Mode1ByOldB,
     CountSignExtended,
     // PWM.
+    WaitCutTo16Bits,
     CmpBeforeZero,
     RemainderKeptOnCs,
     UnroutedTicks,
@@ -126,6 +127,7 @@ pub const MISTAKES: &[(&str, Mistake)] = &[
     ("mode-1-sets-err", Mode1SetsErr),
     ("mode-1-by-old-b", Mode1ByOldB),
     ("count-sign-extended", CountSignExtended),
+    ("wait-cut-to-16-bits", WaitCutTo16Bits),
     ("cmp-before-zero", CmpBeforeZero),
     ("remainder-kept-on-cs", RemainderKeptOnCs),
     ("unrouted-ticks", UnroutedTicks),
