@@ -8,7 +8,7 @@ use lib.Dec.{eqb}
 use lib.IntN.{ℤ, pos, negsuc, natAbs, negℤ, _+ℤ_, _-ℤ_, +ℤ-idr, +ℤ-assoc, +ℤ-comm, +ℤ-negℤ-cancel}
 use Rattle.bits.specs.Bits.{num}
 use Rattle.encoder.specs.Encoder.{place, turned}
-use Rattle.shaft.specs.Shaft.{quarter, phase, both, Near, Fits, lastFrom, doublesFrom, stepOf, stepsFrom, AllPins}
+use Rattle.shaft.specs.Shaft.{quarter, phase, both, Small, Near, Fits, lastFrom, doublesFrom, stepOf, stepsFrom, AllPins}
 use Rattle.shaft.proofs.Group.{shuffle}
 use Rattle.shaft.proofs.Phase.{Move, stay, forth, back₁, forth₂, back₂, move, shown, place-place, place-lt, turned-to, turned-lt, both-is, quarter-lt, phase-is}
 
@@ -70,10 +70,7 @@ choose p (suc zero) k d h l = record { q = p +ℤ pos 1; x = forth p (p +ℤ pos
 choose p (suc (suc zero)) zero d h l = record { q = p +ℤ pos 2; x = forth₂ p (p +ℤ pos 2) refl; same = refl; rest = 0; sum = omega arith; left = omega arith }
 choose p (suc (suc zero)) (suc k) d h l = record { q = p +ℤ negsuc 1; x = back₂ p (p +ℤ negsuc 1) refl; same = refl; rest = k; sum = omega arith; left = omega arith }
 choose p (suc (suc (suc zero))) k d h l = record { q = p +ℤ negsuc 0; x = back₁ p (p +ℤ negsuc 0) refl; same = refl; rest = k; sum = omega arith; left = omega arith }
-choose p (suc (suc (suc (suc j)))) k d h l = absurd (far j h)
-  where
-    far : (j : ℕ) → suc (suc (suc (suc j))) < 4 → ⊥
-    far j h = omega arith
+choose p (suc (suc (suc (suc j)))) k d h l = absurd (omega arith)
 
 -- for every number of doubles that went back there is a motion, from any place that shows the first pins
 pub reach : (v : ℕ) (p : ℤ) (vs : List ℕ) → phase p ≡ v → AllPins vs → (k : ℕ) → k ≤ doublesFrom v vs → (ps : List ℤ) × Near p ps × Fits ps vs × Balanced v p vs ps k
@@ -96,8 +93,8 @@ reach v p (w ∷ vs) e a k h =
         ∙ ap (λ (i : ℕ). place ((i + turned v w) % 4)) (sym (place-place (quarter p) (quarter-lt p)) ∙ ap place (sym (phase-is p) ∙ e))
         ∙ turned-to v w (phase-lt p v e) (a .0)
 
-    near : (q : ℤ) (x : Move p q) → natAbs (q -ℤ p) ≤ 2
-    near q x = subst (λ (z : ℤ). natAbs z ≤ 2) (sym (ap (λ (y : ℤ). y -ℤ p) (x .to ∙ +ℤ-comm p (x .m)) ∙ +ℤ-negℤ-cancel (x .m) p)) (x .near)
+    near : (q : ℤ) (x : Move p q) → Small (q -ℤ p)
+    near q x = subst Small (sym (ap (λ (y : ℤ). y -ℤ p) (x .to ∙ +ℤ-comm p (x .m)) ∙ +ℤ-negℤ-cancel (x .m) p)) (x .near)
 
     join : (ch : Chosen p (turned v w) k (doublesFrom w vs)) → phase (ch .q) ≡ w
         → (ps : List ℤ) × Near (ch .q) ps × Fits ps vs × Balanced w (ch .q) vs ps (ch .rest)

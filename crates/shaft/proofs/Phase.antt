@@ -5,13 +5,13 @@ use mathlib.Core.Bool.{Bool}
 use Prim.Native.Nat.{ℕ, zero, suc, _+_, _-_, _*_, _%_, _≤_, _<_}
 use native.Mathlib.Omega.{arith}
 use mathlib.Core.List.{List, [], _∷_}
-use lib.ListN.{getD, replicate}
+use lib.ListN.{replicate}
 use lib.Dec.{T, eqb, eqb→eq, ltb, ltb→lt}
 use lib.IntN.{ℤ, pos, negsuc, sucℤ, predℤ, natAbs, negℤ, _+ℤ_, _-ℤ_, +ℤ-sucℤ, +ℤ-predℤ, +ℤ-idr, +ℤ-one, +ℤ-comm, -ℤ-+ℤ-cancel}
 use Rattle.laws.proofs.Table.{every, at}
 use Rattle.bits.specs.Bits.{num}
 use Rattle.encoder.specs.Encoder.{place, turned}
-use Rattle.shaft.specs.Shaft.{quarter, phase, both, stepOf}
+use Rattle.shaft.specs.Shaft.{quarter, pinsAt, phase, Small, both, stepOf}
 
 -- ---- a test at each pair of numbers below 4
 
@@ -65,7 +65,7 @@ quarter-lt (negsuc n) = omega arith
 pub phase-is : (p : ℤ) → phase p ≡ place (quarter p)
 phase-is p =
     eqb→eq (phase p) (place (quarter p))
-    (line (λ a. eqb (getD (0 ∷ 1 ∷ 3 ∷ 2 ∷ []) a 0) (place a)) tt (quarter p) (quarter-lt p))
+    (line (λ a. eqb (pinsAt a) (place a)) tt (quarter p) (quarter-lt p))
 
 pub quarter-suc : (p : ℤ) → quarter (sucℤ p) ≡ (quarter p + 1) % 4
 quarter-suc (pos n) = omega arith
@@ -85,7 +85,7 @@ pub record Move (p q : ℤ) : Type 0 where
   pub to : q ≡ p +ℤ m
   pub turns : quarter q ≡ (quarter p + j) % 4
   pub small : j < 4
-  pub near : natAbs m ≤ 2
+  pub near : Small m
   pub within : back ≤ num (eqb j 2)
   pub counts : stepOf j +ℤ pos (2 * num (eqb j 2)) ≡ m +ℤ pos (4 * back)
 
@@ -114,20 +114,17 @@ back₂ p q e = record { m = negsuc 1; j = 2; back = 1; to = e; turns = ap quart
     twice a = omega arith
 
 -- any two positions at most two apart
-pub move : (p q : ℤ) → natAbs (q -ℤ p) ≤ 2 → Move p q
+pub move : (p q : ℤ) → Small (q -ℤ p) → Move p q
 move p q h = go (q -ℤ p) (sym (+ℤ-comm p (q -ℤ p) ∙ -ℤ-+ℤ-cancel q p)) h
   where
-    far : (n : ℕ) → suc (suc (suc n)) ≤ 2 → ⊥
-    far n h = omega arith
-
-    go : (z : ℤ) → q ≡ p +ℤ z → natAbs z ≤ 2 → Move p q
+    go : (z : ℤ) → q ≡ p +ℤ z → Small z → Move p q
     go (pos zero) e h = stay p q e
     go (pos (suc zero)) e h = forth p q e
     go (pos (suc (suc zero))) e h = forth₂ p q e
-    go (pos (suc (suc (suc n)))) e h = absurd (far n h)
+    go (pos (suc (suc (suc n)))) e h = absurd (omega arith)
     go (negsuc zero) e h = back₁ p q e
     go (negsuc (suc zero)) e h = back₂ p q e
-    go (negsuc (suc (suc n))) e h = absurd (far n h)
+    go (negsuc (suc (suc n))) e h = absurd (omega arith)
 
 -- and what its pins show
 pub shown : (p q : ℤ) (x : Move p q) → turned (phase p) (phase q) ≡ x .j

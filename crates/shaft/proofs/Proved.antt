@@ -7,7 +7,7 @@ use native.Mathlib.Omega.{arith}
 use lib.IntN.{ℤ, pos, negsuc, negℤ, natAbs, _+ℤ_, _-ℤ_, +ℤ-idr, +ℤ-assoc, +ℤ-comm, +ℤ-invr}
 use Rattle.encoder.specs.Encoder.{place}
 use Rattle.shaft.specs.Shaft.{Fits, travel, doubles, steps, doublesFrom, stepsFrom, lastFrom, AllPins, gapOf, gap}
-use Rattle.shaft.specs.Motions.{Gaps, Open, Sign}
+use Rattle.shaft.specs.Motions.{Gaps, Exceed, Open, Sign}
 use Rattle.shaft.proofs.Group.{travels, crossed}
 use Rattle.shaft.proofs.Phase.{starts}
 use Rattle.shaft.proofs.Balance.{Balanced, balance, reach}
@@ -30,10 +30,7 @@ motion-tied (v ∷ vs) (p ∷ ps) f = let b = balance v p vs ps (f .0) (f .1) (f
 
 gap-tied : (vs : List ℕ) → AllPins vs → (k : ℕ) → k ≤ doubles vs → (ps : List ℤ) × Fits ps vs × Tied vs ps k
 gap-tied [] a zero h = ([], tt, refl)
-gap-tied [] a (suc k) h = absurd (none k h)
-  where
-    none : (k : ℕ) → suc k ≤ 0 → ⊥
-    none k h = omega arith
+gap-tied [] a (suc k) h = absurd (omega arith)
 gap-tied (v ∷ vs) a k h =
     let s = starts v (a .0) in
     let r = reach v (pos (place v)) vs s (a .1) k h in
@@ -67,9 +64,10 @@ sign vs a = record {
         let d-none : 2 * d ≡ 0 = omega arith in
         sym (+ℤ-idr t) ∙ rw (k-none, d-none) at e ∙ +ℤ-idr s
 
-    two : natAbs (steps vs) ≤ 2 * doubles vs → (doubles vs ≡ 0 → ⊥) → Open vs
-    two l some =
+    two : (Exceed (steps vs) (doubles vs) → ⊥) → (doubles vs ≡ 0 → ⊥) → Open vs
+    two not-more some =
         let d = doubles vs in
+        let l : natAbs (steps vs) ≤ 2 * d = omega arith in
         let x = gap-tied vs a 0 (omega arith) in
         let y = gap-tied vs a d (omega arith) in
         let t = travel (x .0) in

@@ -13,6 +13,10 @@ pub record Gaps (vs : List ℕ) : Type 0 where
   -- "for every k from 0 to d some fitting motion has exactly that gap"
   pub every-gap : (k : ℕ) → k ≤ doubles vs → (ps : List ℤ) × Fits ps vs × (gapOf vs ps ≡ gap (doubles vs) k)
 
+-- "the counted steps exceed 2d in size"
+abbrev pub Exceed : ℤ → ℕ → Type 0
+Exceed s d = 2 * d < natAbs s
+
 -- two fitting motions, one that does not go back and one that does not go forward, of which not both stand still
 pub record Open (vs : List ℕ) : Type 0 where
   pub one : List ℤ
@@ -28,8 +32,8 @@ pub record Open (vs : List ℕ) : Type 0 where
 -- whether the pins settle the direction of the travel: by the counted steps and 2d
 pub record Sign (vs : List ℕ) : Type 0 where
   -- "if the counted steps exceed 2d in size, every fitting motion travels in their direction", and so does not stand still
-  pub settled : 2 * doubles vs < natAbs (steps vs) → (ps : List ℤ) → Fits ps vs → direction (travel ps) ≡ direction (steps vs)
+  pub settled : Exceed (steps vs) (doubles vs) → (ps : List ℤ) → Fits ps vs → direction (travel ps) ≡ direction (steps vs)
   -- "with d = 0 the travel is the counted steps exactly"
   pub clean : doubles vs ≡ 0 → (ps : List ℤ) → Fits ps vs → travel ps ≡ steps vs
   -- "where the steps do not exceed 2d, two fitting motions of opposite (or zero) direction exist unless d is 0"
-  pub unsettled : natAbs (steps vs) ≤ 2 * doubles vs → (doubles vs ≡ 0 → ⊥) → Open vs
+  pub unsettled : (Exceed (steps vs) (doubles vs) → ⊥) → (doubles vs ≡ 0 → ⊥) → Open vs

@@ -17,13 +17,19 @@ quarter (pos n) = n % 4
 quarter (negsuc n) = 3 - n % 4
 
 -- the pins at a position. "forward means phase A leads": forward they run 00, 10, 11, 01, with A written first
+abbrev pub pinsAt : ℕ → ℕ
+pinsAt n = getD (0 ∷ 1 ∷ 3 ∷ 2 ∷ []) n 0
+
 abbrev pub phase : ℤ → ℕ
-phase p = getD (0 ∷ 1 ∷ 3 ∷ 2 ∷ []) (quarter p) 0
+phase p = pinsAt (quarter p)
 
 -- "at most two quarter-steps from each to the next"
+abbrev pub Small : ℤ → Type 0
+Small m = natAbs m ≤ 2
+
 abbrev pub Near : ℤ → List ℤ → Type 0
 Near p [] = Unit {0}
-Near p (q ∷ ps) = natAbs (q -ℤ p) ≤ 2
+Near p (q ∷ ps) = Small (q -ℤ p)
 
 -- a motion, "a whole number for each of its pins records", fits the pins
 abbrev pub Fits : List ℤ → List ℕ → Type 0

@@ -135,7 +135,7 @@ config-goes c v w r k =
       count = count;
     }
 
-route-goes : (c : Channel) (v : ℕ) (b : Bool) → Ready c v → b ≡ true → Goes c (onEvent c (route b)) v (pos 0)
+route-goes : (c : Channel) (v : ℕ) (b : Bool) → Ready c v → keeps (route b) ≡ true → Goes c (onEvent c (route b)) v (pos 0)
 route-goes c v b r k = record {
   ready = record {
     routed = k;
@@ -171,7 +171,7 @@ counting c v (config w ∷ xs) r u =
     counting (onEvent c (config w)) v xs (g .ready) (k .1)
     ∙ joined-none (c .encoder .count) (onEvent c (config w) .encoder .count) (stepsFrom v (pinsAmong xs)) (g .count)
 counting c v (route b ∷ xs) r u =
-    let k = both-true b _ u in
+    let k = both-true (keeps (route b)) _ u in
     let g = route-goes c v b r (k .0) in
     counting (onEvent c (route b)) v xs (g .ready) (k .1)
     ∙ joined-none (c .encoder .count) (onEvent c (route b) .encoder .count) (stepsFrom v (pinsAmong xs)) (g .count)
