@@ -1,6 +1,6 @@
 -- The sums of the proof, over any abelian group.
 -- Assumes nothing.
-use mathlib.Core.Path.{_≡_, refl, sym, ap, _∙_}
+use mathlib.Core.Path.{_≡_, sym, ap, _∙_}
 
 module _ {A : Type 0} (_⊕_ : A → A → A) (assoc : (a b c : A) → (a ⊕ b) ⊕ c ≡ a ⊕ (b ⊕ c)) (comm : (a b : A) → a ⊕ b ≡ b ⊕ a) where
   infixl 50 _⊕_

@@ -1,13 +1,13 @@
 -- A move of at most two quarter-steps, by what the pins show of it.
 -- Assumes nothing.
-use mathlib.Core.Path.{_≡_, refl, sym, ap, _∙_, subst}
+use mathlib.Core.Path.{_≡_, refl, ap, _∙_}
 use mathlib.Core.Bool.{Bool}
-use Prim.Native.Nat.{ℕ, zero, suc, _+_, _-_, _*_, _%_, _≤_, _<_}
+use Prim.Native.Nat.{ℕ, zero, suc, _+_, _*_, _%_, _≤_, _<_}
 use native.Mathlib.Omega.{arith}
-use mathlib.Core.List.{List, [], _∷_}
+use mathlib.Core.List.{List}
 use lib.ListN.{replicate}
 use lib.Dec.{T, eqb, eqb→eq, ltb, ltb→lt}
-use lib.IntN.{ℤ, pos, negsuc, sucℤ, predℤ, natAbs, negℤ, _+ℤ_, _-ℤ_, +ℤ-sucℤ, +ℤ-predℤ, +ℤ-idr, +ℤ-one, +ℤ-comm, -ℤ-+ℤ-cancel}
+use lib.IntN.{ℤ, pos, negsuc, sucℤ, predℤ, _+ℤ_, +ℤ-sucℤ, +ℤ-predℤ, +ℤ-idr}
 use Rattle.laws.proofs.Table.{every, at}
 use Rattle.bits.specs.Bits.{num}
 use Rattle.encoder.specs.Encoder.{place, turned}
@@ -77,58 +77,38 @@ quarter-pred (pos zero) = refl
 quarter-pred (pos (suc n)) = omega arith
 quarter-pred (negsuc n) = omega arith
 
--- a move from p to q: by m quarter-steps, which the pins show as a turn by j. back is 1 at a double that went back
-pub record Move (p q : ℤ) : Type 0 where
-  pub m : ℤ
-  pub j : ℕ
-  pub back : ℕ
-  pub to : q ≡ p +ℤ m
-  pub turns : quarter q ≡ (quarter p + j) % 4
-  pub small : j < 4
-  pub near : Small m
-  pub within : back ≤ num (eqb j 2)
-  pub counts : stepOf j +ℤ pos (2 * num (eqb j 2)) ≡ m +ℤ pos (4 * back)
+pub quarter-add : (p m : ℤ) → quarter (p +ℤ m) ≡ (quarter p + quarter m) % 4
+quarter-add p (pos zero) = ap quarter (+ℤ-idr p) ∙ omega (arith, quarter-lt p)
+quarter-add p (pos (suc n)) =
+    ap quarter (+ℤ-sucℤ p (pos n)) ∙ quarter-suc (p +ℤ pos n) ∙ ap (λ (a : ℕ). (a + 1) % 4) (quarter-add p (pos n)) ∙ omega arith
+quarter-add p (negsuc zero) = ap quarter (+ℤ-predℤ p (pos 0) ∙ ap predℤ (+ℤ-idr p)) ∙ quarter-pred p
+quarter-add p (negsuc (suc n)) =
+    ap quarter (+ℤ-predℤ p (negsuc n)) ∙ quarter-pred (p +ℤ negsuc n) ∙ ap (λ (a : ℕ). (a + 3) % 4) (quarter-add p (negsuc n)) ∙ omega arith
 
-unfoldable pub stay : (p q : ℤ) → q ≡ p +ℤ pos 0 → Move p q
-stay p q e = record { m = pos 0; j = 0; back = 0; to = e; turns = ap quarter (e ∙ +ℤ-idr p) ∙ same (quarter p) (quarter-lt p); small = omega arith; near = omega arith; within = omega arith; counts = refl }
-  where
-    same : (a : ℕ) → a < 4 → a ≡ (a + 0) % 4
-    same a h = omega arith
+-- ---- a move by m quarter-steps, at most two
 
-unfoldable pub forth : (p q : ℤ) → q ≡ p +ℤ pos 1 → Move p q
-forth p q e = record { m = pos 1; j = 1; back = 0; to = e; turns = ap quarter (e ∙ +ℤ-one p) ∙ quarter-suc p; small = omega arith; near = omega arith; within = omega arith; counts = refl }
+-- 1 at a double that goes back
+abbrev pub backOf : ℤ → ℕ
+backOf (pos n) = 0
+backOf (negsuc n) = n
 
-unfoldable pub back₁ : (p q : ℤ) → q ≡ p +ℤ negsuc 0 → Move p q
-back₁ p q e = record { m = negsuc 0; j = 3; back = 0; to = e; turns = ap quarter (e ∙ +ℤ-predℤ p (pos 0) ∙ ap predℤ (+ℤ-idr p)) ∙ quarter-pred p; small = omega arith; near = omega arith; within = omega arith; counts = refl }
+-- what it counts, with 2 for a double
+pub record Counts (m : ℤ) : Type 0 where
+  pub within : backOf m ≤ num (eqb (quarter m) 2)
+  pub sum : stepOf (quarter m) +ℤ pos (2 * num (eqb (quarter m) 2)) ≡ m +ℤ pos (4 * backOf m)
 
-unfoldable pub forth₂ : (p q : ℤ) → q ≡ p +ℤ pos 2 → Move p q
-forth₂ p q e = record { m = pos 2; j = 2; back = 0; to = e; turns = ap quarter (e ∙ +ℤ-sucℤ p (pos 1) ∙ ap sucℤ (+ℤ-one p)) ∙ quarter-suc (sucℤ p) ∙ ap (λ (a : ℕ). (a + 1) % 4) (quarter-suc p) ∙ twice (quarter p); small = omega arith; near = omega arith; within = omega arith; counts = refl }
-  where
-    twice : (a : ℕ) → ((a + 1) % 4 + 1) % 4 ≡ (a + 2) % 4
-    twice a = omega arith
-
-unfoldable pub back₂ : (p q : ℤ) → q ≡ p +ℤ negsuc 1 → Move p q
-back₂ p q e = record { m = negsuc 1; j = 2; back = 1; to = e; turns = ap quarter (e ∙ +ℤ-predℤ p (negsuc 0) ∙ ap predℤ (+ℤ-predℤ p (pos 0) ∙ ap predℤ (+ℤ-idr p))) ∙ quarter-pred (predℤ p) ∙ ap (λ (a : ℕ). (a + 3) % 4) (quarter-pred p) ∙ twice (quarter p); small = omega arith; near = omega arith; within = omega arith; counts = refl }
-  where
-    twice : (a : ℕ) → ((a + 3) % 4 + 3) % 4 ≡ (a + 2) % 4
-    twice a = omega arith
-
--- any two positions at most two apart
-pub move : (p q : ℤ) → Small (q -ℤ p) → Move p q
-move p q h = go (q -ℤ p) (sym (+ℤ-comm p (q -ℤ p) ∙ -ℤ-+ℤ-cancel q p)) h
-  where
-    go : (z : ℤ) → q ≡ p +ℤ z → Small z → Move p q
-    go (pos zero) e h = stay p q e
-    go (pos (suc zero)) e h = forth p q e
-    go (pos (suc (suc zero))) e h = forth₂ p q e
-    go (pos (suc (suc (suc n)))) e h = absurd (omega arith)
-    go (negsuc zero) e h = back₁ p q e
-    go (negsuc (suc zero)) e h = back₂ p q e
-    go (negsuc (suc (suc n))) e h = absurd (omega arith)
+pub counts : (m : ℤ) → Small m → Counts m
+counts (pos zero) h = record { within = omega arith; sum = refl }
+counts (pos (suc zero)) h = record { within = omega arith; sum = refl }
+counts (pos (suc (suc zero))) h = record { within = omega arith; sum = refl }
+counts (pos (suc (suc (suc n)))) h = absurd (omega arith)
+counts (negsuc zero) h = record { within = omega arith; sum = refl }
+counts (negsuc (suc zero)) h = record { within = omega arith; sum = refl }
+counts (negsuc (suc (suc n))) h = absurd (omega arith)
 
 -- and what its pins show
-pub shown : (p q : ℤ) (x : Move p q) → turned (phase p) (phase q) ≡ x .j
-shown p q x =
+pub shown : (p q m : ℤ) → q ≡ p +ℤ m → turned (phase p) (phase q) ≡ quarter m
+shown p q m to =
     ap (λ (a : ℕ). turned a (phase q)) (phase-is p)
-    ∙ ap (λ (b : ℕ). turned (place (quarter p)) b) (phase-is q ∙ ap place (x .turns))
-    ∙ turned-on (quarter p) (x .j) (quarter-lt p) (x .small)
+    ∙ ap (λ (b : ℕ). turned (place (quarter p)) b) (phase-is q ∙ ap place (ap quarter to ∙ quarter-add p m))
+    ∙ turned-on (quarter p) (quarter m) (quarter-lt p) (quarter-lt m)

@@ -1,10 +1,10 @@
 -- The facts of specs/Motions.antt.
 -- Assumes nothing.
-use mathlib.Core.Path.{_≡_, refl, sym, ap, _∙_}
+use mathlib.Core.Path.{_≡_, refl, sym, _∙_}
 use mathlib.Core.List.{List, [], _∷_}
-use Prim.Native.Nat.{ℕ, zero, suc, _+_, _*_, _≤_, _<_}
+use Prim.Native.Nat.{ℕ, zero, suc, _*_, _≤_}
 use native.Mathlib.Omega.{arith}
-use lib.IntN.{ℤ, pos, negsuc, negℤ, natAbs, _+ℤ_, _-ℤ_, +ℤ-idr, +ℤ-assoc, +ℤ-comm, +ℤ-invr}
+use lib.IntN.{ℤ, pos, negℤ, natAbs, _+ℤ_, +ℤ-idr, +ℤ-assoc, +ℤ-comm, +ℤ-invr}
 use Rattle.encoder.specs.Encoder.{place}
 use Rattle.shaft.specs.Shaft.{Fits, travel, doubles, steps, doublesFrom, stepsFrom, lastFrom, AllPins, gapOf, gap}
 use Rattle.shaft.specs.Motions.{Gaps, Exceed, Open, Sign}

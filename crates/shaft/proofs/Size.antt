@@ -5,7 +5,7 @@ use mathlib.Core.Path.{_≡_, refl, sym, ap, _∙_}
 use Prim.Native.Nat.{ℕ, zero, suc, _+_, _*_, _≤_, _<_}
 use native.Mathlib.Omega.{arith}
 use lib.IntN.{ℤ, pos, negsuc, natAbs, _+ℤ_, +ℤ-idr, +ℤ-invr, +ℤ-assoc, +ℤ-comm}
-use Rattle.shaft.specs.Shaft.{Direction, forward, still, backward, direction}
+use Rattle.shaft.specs.Shaft.{forward, backward, direction}
 use Rattle.shaft.specs.Motions.{Exceed}
 use Rattle.shaft.proofs.Group.{lift}
 

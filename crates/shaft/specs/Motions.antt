@@ -4,7 +4,7 @@ use Prim.Native.Nat.{ℕ, _*_, _≤_, _<_}
 use mathlib.Core.Path.{_≡_}
 use mathlib.Core.List.{List}
 use lib.IntN.{ℤ, natAbs}
-use Rattle.shaft.specs.Shaft.{Fits, travel, Direction, forward, backward, direction, doubles, steps, gapOf, gap}
+use Rattle.shaft.specs.Shaft.{Fits, travel, forward, backward, direction, doubles, steps, gapOf, gap}
 
 -- the gaps are 4k - 2d, "k from 0 to d", and no others
 pub record Gaps (vs : List ℕ) : Type 0 where

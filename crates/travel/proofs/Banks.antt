@@ -1,19 +1,17 @@
 -- One record on a bank: it does to encoder i what it is to it, and keeps the bank sound.
 -- Assumes nothing.
-use mathlib.Core.Path.{_≡_, refl, sym, ap, _∙_, subst}
+use mathlib.Core.Path.{_≡_, refl, sym, ap, _∙_}
 use mathlib.Core.Bool.{Bool, true, false, not, cond, _&&_}
-use mathlib.Core.List.{List, [], _∷_}
+use mathlib.Core.List.{List}
 use Prim.Native.Nat.{ℕ, zero, suc, _%_, _<_}
 use native.Mathlib.Omega.{arith}
 use lib.Dec.{eqb}
-use lib.IntN.{ℤ, pos, negsuc, _+ℤ_}
-use lib.ListN.{length, getD, set, length-set}
+use lib.IntN.{pos, _+ℤ_}
+use lib.ListN.{length, length-set}
 use lib.Seq.{getD-set-same, getD-set-other}
 use lib.Signed.{mag}
 use borrow.Author.Tests.{eqb-true, eqb-false}
 use Rattle.bits.specs.Bits.{bit}
-use Rattle.laws.specs.Each.{mapFrom}
-use Rattle.encoder.specs.Count.{wrap}
 use Rattle.encoder.specs.Encoder as encoder
 use Rattle.encoder.specs.declared.Encoder.{Encoder}
 use Rattle.encoder.proofs.Wrap.{wrap-small}
@@ -30,7 +28,7 @@ use Rattle.bank.specs.declared.Bank.{Bank}
 use Rattle.bank.specs.Events.{encoderAfter}
 use Rattle.bank.specs.Bank.{encoderAt, effectOf, fresh, reroute}
 use Rattle.replay.specs.Replay.{turned, turnOf}
-use Rattle.travel.specs.Stretch.{Event, asks, nothing, eventOf, eventFrom}
+use Rattle.travel.specs.Stretch.{asks, nothing, eventOf, eventFrom}
 use Rattle.travel.specs.Demand.{Sound}
 use Rattle.travel.proofs.Counting.{Channel, onEvent}
 use Rattle.travel.proofs.Lists.{at-each, length-each, each-keeps, set-keeps, replicate-keeps}

@@ -2,15 +2,14 @@
 -- Assumes nothing.
 use mathlib.Core.Path.{_≡_, refl, sym, ap, _∙_, subst}
 use mathlib.Core.Bool.{Bool, true, false, cond}
-use mathlib.Core.List.{List, [], _∷_, _++_, append-assoc}
+use mathlib.Core.List.{List, [], _∷_, _++_, append-assoc, append-nil}
 use Prim.Native.Nat.{ℕ, _*_}
 use native.Mathlib.Omega.{arith}
-use lib.Dec.{eqb, leb}
+use lib.Dec.{leb}
 use lib.ListN.{drop}
-use lib.IntN.{ℤ, pos, _+ℤ_, _-ℤ_, +ℤ-assoc, +ℤ-comm, -ℤ-+ℤ-cancel}
+use lib.IntN.{ℤ, _+ℤ_, +ℤ-assoc, +ℤ-comm, -ℤ-+ℤ-cancel}
 use borrow.Author.Tests.{eq-eqb}
 use Rattle.encoder.specs.Count.{pattern, wrap}
-use Rattle.encoder.specs.Encoder.{cntrOf}
 use Rattle.encoder.specs.declared.Encoder.{Encoder}
 use Rattle.encoder.proofs.Wrap.{pattern-wrap}
 use Rattle.shaft.specs.Shaft.{travel, steps, gapOf, AllPins}
@@ -29,9 +28,9 @@ use Rattle.bank.specs.declared.Bank.{Bank}
 use Rattle.bank.specs.Events.{encoderRegister}
 use Rattle.bank.specs.Bank.{encoderAt, fresh, refusalOf, readingOf, effectOf, answerOf}
 use Rattle.replay.specs.Replay.{Run, going, halted, turnOf, step, runOf, playOf, replayFrom, replayOf}
-use Rattle.travel.specs.Stretch.{Event, pins, nothing, eventFrom, eventsOf, pinsAmong, pinsIn, Stretch}
-use Rattle.travel.specs.Demand.{Tells, Demand, AllSound, DemandOfRuns}
-use Rattle.travel.specs.Log.{recordsAt, Accepted, DemandOfLogs, WholeLog}
+use Rattle.travel.specs.Stretch.{Event, pins, nothing, eventFrom, eventsOf, pinsAmong, pinsIn}
+use Rattle.travel.specs.Demand.{Tells, CntrReads, Demand, AllSound, DemandOfRuns}
+use Rattle.travel.specs.Log.{recordsAt, Accepted, DemandOfLogs, DemandAtTheEnd, WholeLog}
 use Rattle.travel.proofs.Counting.{Channel, onEvent, after, in-quadrature, first-ready, counting}
 use Rattle.travel.proofs.Banks.{view}
 use Rattle.travel.proofs.Runs as runs
@@ -55,6 +54,10 @@ demand vs first last a counted = record {
     tells ps g e =
         let s = split (first .count) vs ps g e in
         record { count = counted ∙ ap wrap s; cntr = ap pattern counted ∙ pattern-wrap (first .count +ℤ steps vs) ∙ ap pattern s }
+
+pub cntr-reads : CntrReads
+unfolding answerOf refusalOf readingOf isRead encoderRegister
+cntr-reads i b = refl
 
 pub all-sound : AllSound
 all-sound = runs.all-sound
@@ -98,6 +101,12 @@ demand-of-logs i log room before r rs later goes cut st =
     subst (λ (x : Bank). Demand (pinsIn i (r ∷ rs)) (encoderAt i x) (encoderAt i (runOf fresh (before ++ r ∷ rs) .bank))) (sym (runs.rest-bank fresh before (r ∷ []) to-first))
     (subst (λ (x : Bank). Demand (pinsIn i (r ∷ rs)) (encoderAt i (runOf b (r ∷ []) .bank)) (encoderAt i x)) (sym (runs.rest-bank fresh before (r ∷ rs) to-last))
     (demand-of-runs i b r rs (all-sound before) st (runs.rest-goes fresh before (r ∷ rs) to-last)))
+
+pub demand-at-the-end : DemandAtTheEnd
+demand-at-the-end i log room before r rs goes cut st =
+    subst (λ (x : Bank). Demand (pinsIn i (r ∷ rs)) (encoderAt i (runOf fresh (before ++ r ∷ []) .bank)) (encoderAt i x))
+    (sym (ap (λ (x : Run). x .bank) (accepted log room goes ∙ ap (runOf fresh) cut)))
+    (demand-of-logs i log room before r rs [] goes (cut ∙ sym (append-nil (before ++ r ∷ rs))) st)
 
 pub whole-log : WholeLog
 unfolding replayOf replayFrom trailerOf playOf runOf step turnOf records readsIn leOf decodeOf namedOf writeOf readOf pinsOf ticksOf isRead fieldOf some mapFrom encoderRegister fresh refusalOf readingOf effectOf answerOf

@@ -11,8 +11,10 @@ use Rattle.encoder.specs.Encoder.{cntrOf}
 use Rattle.encoder.specs.declared.Encoder.{Encoder}
 use Rattle.shaft.specs.Shaft.{Fits, travel, doubles, steps, gapOf, gap}
 use Rattle.shaft.specs.Motions.{Sign}
+use Rattle.wire.specs.declared.EncoderEvent.the-variants.{Read as ReadEncoder}
+use Rattle.wire.specs.declared.Record.the-variants.{Encoder as OfEncoder}
 use Rattle.bank.specs.declared.Bank.{Bank}
-use Rattle.bank.specs.Bank.{encoderAt, fresh}
+use Rattle.bank.specs.Bank.{encoderAt, fresh, reading, answerOf}
 use Rattle.replay.specs.Replay.{going, runOf}
 use Rattle.travel.specs.Stretch.{pinsIn, Stretch}
 
@@ -21,6 +23,10 @@ use Rattle.travel.specs.Stretch.{pinsIn, Stretch}
 pub record Tells (first last : Encoder) (travelled g : ℤ) : Type 0 where
   pub count : last .count ≡ wrap (first .count +ℤ travelled +ℤ g)
   pub cntr : cntrOf last ≡ pattern (first .count +ℤ travelled +ℤ g)
+
+-- a read of CNTR answers that number
+abbrev pub CntrReads : Type 0
+CntrReads = (i : ℕ) (b : Bank) → answerOf (OfEncoder i (ReadEncoder 2)) b ≡ reading (cntrOf (encoderAt i b))
 
 -- of the pins vs: the encoder just after the first, and after the last
 pub record Demand (vs : List ℕ) (first last : Encoder) : Type 0 where
