@@ -3,15 +3,16 @@
 use mathlib.Core.Path.{_≡_, refl, sym, ap, _∙_, subst}
 use mathlib.Core.Bool.{Bool, true, false, cond}
 use mathlib.Core.List.{List, [], _∷_, _++_, append-assoc, append-nil}
-use Prim.Native.Nat.{ℕ, _*_}
+use Prim.Native.Nat.{ℕ, _*_, _<_}
 use native.Mathlib.Omega.{arith}
 use lib.Dec.{leb}
 use lib.ListN.{drop}
-use lib.IntN.{ℤ, _+ℤ_, +ℤ-assoc, +ℤ-comm, -ℤ-+ℤ-cancel}
+use lib.IntN.{ℤ, negℤ, _+ℤ_, _-ℤ_, +ℤ-assoc, +ℤ-comm, +ℤ-negℤ-cancel, -ℤ-+ℤ-cancel}
+use lib.Signed.{mag}
 use borrow.Author.Tests.{eq-eqb}
-use Rattle.encoder.specs.Count.{pattern, wrap}
+use Rattle.encoder.specs.Count.{pattern, signed, wrap}
 use Rattle.encoder.specs.declared.Encoder.{Encoder}
-use Rattle.encoder.proofs.Wrap.{pattern-wrap}
+use Rattle.encoder.proofs.Wrap.{pattern-wrap, pattern-add-wrap, wrap-fits}
 use Rattle.shaft.specs.Shaft.{travel, steps, gapOf, AllPins}
 use Rattle.shaft.proofs.Proved.{gaps, sign}
 use Rattle.laws.specs.Each.{mapFrom}
@@ -47,6 +48,7 @@ demand vs first last a counted = record {
   every-motion = λ ps f. let m = gaps vs a .every-motion ps f in (m .0, m .1, m .2, tells ps _ (m .2));
   every-gap = λ k h. let m = gaps vs a .every-gap k h in (m .0, m .1, m .2, tells (m .0) _ (m .2));
   counted = counted;
+  difference = λ h. sym (apart h);
   sign = sign vs a;
 }
   where
@@ -54,6 +56,13 @@ demand vs first last a counted = record {
     tells ps g e =
         let s = split (first .count) vs ps g e in
         record { count = counted ∙ ap wrap s; cntr = ap pattern counted ∙ pattern-wrap (first .count +ℤ steps vs) ∙ ap pattern s }
+
+    apart : mag (steps vs) < 2147483648 → wrap (last .count -ℤ first .count) ≡ steps vs
+    apart h =
+        ap (λ (z : ℤ). wrap (z -ℤ first .count)) counted
+        ∙ ap signed (pattern-add-wrap (first .count +ℤ steps vs) (negℤ (first .count)))
+        ∙ ap wrap (ap (λ (z : ℤ). z -ℤ first .count) (+ℤ-comm (first .count) (steps vs)) ∙ +ℤ-negℤ-cancel (steps vs) (first .count))
+        ∙ wrap-fits (steps vs) h
 
 pub cntr-reads : CntrReads
 unfolding answerOf refusalOf readingOf isRead encoderRegister

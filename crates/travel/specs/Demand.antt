@@ -3,7 +3,7 @@
 use Prim.Native.Nat.{ℕ, _≤_, _<_}
 use mathlib.Core.Path.{_≡_}
 use mathlib.Core.List.{List, [], _∷_}
-use lib.IntN.{ℤ, _+ℤ_}
+use lib.IntN.{ℤ, _+ℤ_, _-ℤ_}
 use lib.ListN.{length}
 use lib.Signed.{mag}
 use Rattle.encoder.specs.Count.{pattern, wrap}
@@ -36,8 +36,10 @@ pub record Demand (vs : List ℕ) (first last : Encoder) : Type 0 where
   -- B. "for every k from 0 to d some fitting motion has exactly that gap"
   pub every-gap : (k : ℕ) → k ≤ doubles vs
       → (ps : List ℤ) × Fits ps vs × (gapOf vs ps ≡ gap (doubles vs) k) × Tells first last (travel ps) (gap (doubles vs) k)
-  -- the counted steps are what the count has counted, and they settle the sign or do not
+  -- the counted steps are what the count has counted; below 2^31 in size they are its difference, taken as a 32-bit number
   pub counted : last .count ≡ wrap (first .count +ℤ steps vs)
+  pub difference : mag (steps vs) < 2147483648 → steps vs ≡ wrap (last .count -ℤ first .count)
+  -- and they settle the sign, or do not
   pub sign : Sign vs
 
 -- a bank of ten encoders, whose counts are 32-bit numbers
