@@ -124,4 +124,6 @@ whole-log = record {
   cut = refl;
   stretch = record { shown = 0; begins = refl; counts = refl; calm = refl };
   fits = (refl, omega arith, (refl, tt, tt));
+  one-step = refl;
+  no-double = refl;
 }
