@@ -1,0 +1,5 @@
+mod Group
+mod Phase
+mod Balance
+mod Size
+pub mod Proved

@@ -1,0 +1,2 @@
+pub mod Shaft
+pub mod Motions

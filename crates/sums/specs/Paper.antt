@@ -1,0 +1,44 @@
+-- Paper 01, "Sums to check by hand": "Those marked * are proved, together, as a single fact about the rules", in the paper's order.
+-- Assumes nothing.
+use mathlib.Core.Path.{_≡_}
+use mathlib.Core.Bool.{true}
+use mathlib.Core.List.{[], _∷_}
+use lib.IntN.{pos}
+use Rattle.rate.specs.declared.Found.the-variants.{Refused}
+use Rattle.rate.specs.Rate.{pwm, spi, Answer}
+use Rattle.rate.specs.Sums.{Gives}
+use Rattle.encoder.specs.Encoder.{cntrOf}
+use Rattle.encoder.specs.Facts.{played, enabled}
+use Rattle.pwm.specs.Pwm.{ticksOf, levelOf}
+use Rattle.pwm.specs.Facts.{started}
+
+pub record PaperSums : Type 0 where
+  -- "PWM 1,000, tol 0: N 1, X 39,999"
+  pub pwm-1000 : Gives pwm 1_000 0 1 39_999
+  -- "PWM 40, tol 0: N 16, X 62,499"
+  pub pwm-40 : Gives pwm 40 0 16 62_499
+  -- "PWM 610: tol 3 refused 14"
+  pub pwm-610-3 : Answer pwm 610 3 (Refused 14)
+  -- "tol 4 gives N 2, X 32,786"
+  pub pwm-610-4 : Gives pwm 610 4 2 32_786
+  -- "SPI 4,000,000, tol 0: N 1, X 4"
+  pub spi-4000000 : Gives spi 4_000_000 0 1 4
+  -- "SPI 40, tol 0: N 8, X 62,499"
+  pub spi-40 : Gives spi 40 0 8 62_499
+  -- "SPI 3,650,000: tol 86,757 refused"
+  pub spi-3650000-86757 : Answer spi 3_650_000 86_757 (Refused 14)
+  -- "86,758 gives N 1, X 5"
+  pub spi-3650000-86758 : Gives spi 3_650_000 86_758 1 5
+  -- "Pins 00, 10, 11, 01, 00: count 4", of a fresh encoder with EN 1. A is bit 0, so 10 is written 1
+  pub pins-forward : played (0 ∷ 1 ∷ 3 ∷ 2 ∷ 0 ∷ []) enabled .count ≡ pos 4
+  -- "Backward: CNTR 4,294,967,292"
+  pub pins-backward : cntrOf (played (0 ∷ 2 ∷ 3 ∷ 1 ∷ 0 ∷ []) enabled) ≡ 4_294_967_292
+  -- "00, 11: count 0, ERR 1"
+  pub pins-double : played (0 ∷ 3 ∷ []) enabled .count ≡ pos 0
+  pub pins-error : played (0 ∷ 3 ∷ []) enabled .flags .err ≡ true
+  -- "Fresh PWM, CS 1, MODE 1, MAX 3, CMP 2, 5 ticks: counter 1, output 1"
+  pub ticks-counter : ticksOf 5 (started 1) .counter ≡ 1
+  pub ticks-output : levelOf (ticksOf 5 (started 1)) ≡ 1
+  -- "CS 2 and 5 ticks: two steps, remainder 1"
+  pub ticks-steps : ticksOf 5 (started 2) .counter ≡ 2
+  pub ticks-remainder : ticksOf 5 (started 2) .remainder ≡ 1
