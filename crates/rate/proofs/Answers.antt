@@ -1,4 +1,4 @@
--- What the scan finds is an answer, and there is one answer to a request. Assumes nothing.
+-- What the finder finds is an answer, and there is one answer to a request. Assumes nothing.
 use mathlib.Core.Path.{_≡_, refl, sym, ap, _∙_}
 use mathlib.Core.Bool.{Bool, true, false, cond}
 use Prim.Native.Nat.{ℕ, _+_, _-_, _*_, _^_, _≤_, _<_}
@@ -8,106 +8,198 @@ use lib.Dec.{ltb, leb}
 use borrow.Author.Tests.{ltb-true, ltb-false, leb-true, leb-false}
 use Rattle.divider.specs.Divider.{dividerOf}
 use Rattle.rate.specs.declared.Rule.{Rule}
-use Rattle.rate.specs.declared.Best.{Best}
+use Rattle.rate.specs.declared.Place.{Place}
 use Rattle.rate.specs.declared.Found.{Found}
 use Rattle.rate.specs.declared.Found.the-variants.{Pair, Refused}
 use Rattle.rate.specs.Rate.{apart, period, IsPair, AsGood, Within, Wins, NoPair, InRange, Outcome, outside, loose, none, pair, Answer, pwm, spi}
 use Rattle.rate.specs.Settled.{Settled}
-use Rattle.rate.specs.Scan.{Fair, Fit, Small, scan, judge, found}
-use Rattle.rate.proofs.Dividers.{some, one}
+use Rattle.rate.specs.Near.{Fair, Fit, Placed, short, over, shortened, finest, nearerOf, pairOf, judgeAt, found}
+use Rattle.rate.proofs.Dividers.{some, one, next}
 use Rattle.rate.proofs.Order.{within-near}
-use Rattle.rate.proofs.Scanned.{Held, AsGoodAsPair, pair-pos, held-small, scan-held, scan-best}
+use Rattle.rate.proofs.Places.{Least, pair-pos, some-count, fewer-best, more-best, first-placed, shortened-placed}
 
-fitting : (u : Rule) → Fair u → (f : ℕ) → InRange u f → Fit (u .clock) (u .base) f
-fitting u fair f range = omega arith
+pub fitting : (u : Rule) → Fair u → (f : ℕ) → InRange u f → Fit (u .clock) (u .base) f
+fitting u fair f range =
+    let reach : u .low * u .base ≤ f * u .base = mul-le-mul-right (u .base) (range .0) in omega arith
 
--- r is what the scan of a request finds
-module _ (u : Rule) (fair : Fair u) (f : ℕ) (range : InRange u f) (r : Best) (is : r ≡ scan (u .clock) (u .base) f 7) where
+-- of the pairs of w counts, the one that is answered has the smallest divider
+module _ (c w : ℕ) (hc : 1 ≤ c) (lc : c ≤ 7) (hw : 1 ≤ w) (lw : w ≤ 65_536) (full : 1 < c → 32_768 ≤ w) where
+  least : (Q : Found → Type 0) → ((d x : ℕ) → Least (dividerOf c) w d x → Q (Pair d x)) → Q (pairOf c w)
+  least Q g = by (ltb 1 c) (leb w 32_768) refl refl
+    where
+      kept : (1 < c → 32_768 < w) → Q (Pair c (w - 1))
+      kept t =
+          let e : w - 1 + 1 ≡ w = omega arith in
+          g c (w - 1)
+          (record {
+            pair = record { some = hc; most = lc; short = omega arith };
+            same = ap (λ (z : ℕ). dividerOf c * z) e;
+            full = λ h. omega (arith, t h);
+          })
+
+      smaller : 1 < c → w ≡ 32_768 → Q (Pair (c - 1) (2 * w - 1))
+      smaller h t =
+          let e : 2 * w - 1 + 1 ≡ 2 * w = omega arith in
+          let s : c - 1 + 1 ≡ c = omega arith in
+          let d : dividerOf c ≡ 2 * dividerOf (c - 1) = sym (ap dividerOf s) ∙ next (c - 1) (omega arith) (omega arith) in
+          g (c - 1) (2 * w - 1)
+          (record {
+            pair = record { some = omega arith; most = omega arith; short = omega arith };
+            same = rw (e, d) (omega arith);
+            full = λ l. omega arith;
+          })
+
+      by : (s t : Bool) → ltb 1 c ≡ s → leb w 32_768 ≡ t →
+          Q (cond s (cond t (Pair (c - 1) (2 * w - 1)) (Pair c (w - 1))) (Pair c (w - 1)))
+      by true true a b =
+          smaller (ltb-true 1 c a) (le-antisymm (leb-true w 32_768 b) (full (ltb-true 1 c a)))
+      by true false a b = kept (λ h. leb-false w 32_768 b)
+      by false t a b = kept (λ h. absurd (omega (arith, ltb-false 1 c a)))
+
+-- a is the place of a request, and w its nearer count
+module _ (u : Rule) (fair : Fair u) (f : ℕ) (range : InRange u f) (a : Place) (h : Placed (u .clock) (u .base) f a) (l : a .low < 65_536) where
   abbrev C : ℕ
   C = u .clock
 
   abbrev k : ℕ
   k = u .base
 
-  abbrev P : ℕ
-  P = period u (r .choice) (r .count - 1)
+  abbrev c : ℕ
+  c = a .choice
 
-  held : Held C k f 7 r
-  held = rw is (scan-held C k f (fitting u fair f range) 7 (omega arith))
+  abbrev N : ℕ
+  N = dividerOf c
 
-  small : Small C f (r .period)
-  small = held-small C k f (fitting u fair f range) (omega arith) held
+  abbrev s : ℕ
+  s = a .step
 
-  best : (d y : ℕ) → IsPair d y → AsGoodAsPair C k f r d y
-  best = rw is (λ d y p. scan-best C k f (fitting u fair f range) 7 (omega arith) d y (p .some) (p .most) (p .short))
+  record Nearest (w : ℕ) : Type 0 where
+    some : 1 ≤ w
+    most : w ≤ 65_536
+    full : 1 < c → 32_768 ≤ w
+    small : s * w ≤ C + s
+    best : (d x e y : ℕ) → Least N w d x → IsPair e y → AsGood C f (k * N * w) (dividerOf d) (period u e y) (dividerOf e)
 
-  periods : r .period ≡ P
-  periods =
-      let e : r .count ≡ r .count - 1 + 1 = omega (arith, held .least) in
-      held .ticks ∙ ap (λ (m : ℕ). k * dividerOf (r .choice) * m) e
+  fit : Fit C k f
+  fit = fitting u fair f range
 
-  wins : (tol : ℕ) → Within C f tol (r .period) → Wins u f tol (r .choice) (r .count - 1)
-  wins tol w =
-      record {
-        pair = record { some = held .some; most = omega (arith, held .seen); short = omega (arith, held .least, held .most) };
-        within = rw periods at w;
-        best = λ d y p t. rw periods at (best d y p);
-      }
+  steps : s ≡ f * (k * N)
+  steps = h .step
 
-  no-pair : (tol : ℕ) → (Within C f tol (r .period) → ⊥) → NoPair u f tol
-  no-pair tol g d y p w =
-      g (within-near tol (pair-pos C k f (fitting u fair f range) d y (p .some) (p .most)) (best d y p) w)
+  nearest : Nearest (nearerOf C s (a .low))
+  nearest = by (leb (short C s (a .low) * (a .low + 1)) (over C s (a .low) * a .low)) refl
+    where
+      by : (t : Bool) → leb (short C s (a .low) * (a .low + 1)) (over C s (a .low) * a .low) ≡ t →
+          Nearest (cond t (a .low) (a .low + 1))
+      by true t =
+          let g = leb-true (short C s (a .low) * (a .low + 1)) (over C s (a .low) * a .low) t in
+          record {
+            some = some-count C s (a .low) (fair .ticks) g;
+            most = omega arith;
+            full = h .full;
+            small = omega (arith, h .around .under);
+            best = λ d x e y q p. fewer-best C k f fit a h (fair .ticks) d x (rw steps at g) q e y p;
+          }
+      by false t =
+          let g = leb-false (short C s (a .low) * (a .low + 1)) (over C s (a .low) * a .low) t in
+          record {
+            some = omega arith;
+            most = omega arith;
+            full = λ t. omega (arith, h .full t);
+            small = omega (arith, h .around .under);
+            best = λ d x e y q p. more-best C k f fit a h (fair .ticks) d x (rw steps at g) q e y p;
+          }
 
-  -- the code's own numbers, with m for what it has as the distance
-  pub got-fits : f * r .period < 2 ^ 64
-  got-fits = omega (arith, small)
+  module _ (w : ℕ) (is : w ≡ nearerOf C s (a .low)) where
+    near : Nearest w
+    near = rw is nearest
 
-  pub count-some : 1 ≤ r .count
-  count-some = held .least
+    pub count-some : 0 < w
+    count-some = near .some
 
-  module _ (tol m : ℕ) (few : tol ≤ 1_000_000) (e : m ≡ apart C (f * r .period)) where
-    pub miss-fits : 1_000_000 * m < 2 ^ 64
-    miss-fits = omega (arith, small)
+    pub count-most : w ≤ 65_536
+    count-most = near .most
 
-    pub allowed-fits : tol * (f * r .period) < 2 ^ 64
-    allowed-fits = omega (arith, small, mul-le-mul-right (f * r .period) few)
+    got : s * w ≡ f * (k * N * w)
+    got = rw steps (omega arith)
 
-    pub answer-pair : 1_000_000 * m ≤ tol * (f * r .period) → Outcome u f tol 0 (r .choice) (r .count - 1)
-    answer-pair h = pair refl range few (wins tol (omega arith))
+    periods : (d x : ℕ) → Least N w d x → k * N * w ≡ period u d x
+    periods d x q = let e = ap (λ (z : ℕ). k * z) (q .same) in omega arith
 
-    pub answer-none : tol * (f * r .period) < 1_000_000 * m → Outcome u f tol 14 0 0
-    answer-none h = none (refl, refl, refl) range few (no-pair tol (λ w. omega arith))
+    -- the code's own numbers, with v for what it has as the distance
+    pub got-fits : s * w < 2 ^ 64
+    got-fits = omega (arith, near .small, h .around)
 
-judged : (u : Rule) → Fair u → (f tol : ℕ) → InRange u f → tol ≤ 1_000_000 →
-    Answer u f tol (judge (u .clock) f tol (scan (u .clock) (u .base) f 7))
-judged u fair f tol range few = by (leb (1_000_000 * m) (tol * (f * r .period))) refl
-  where
-    r : Best
-    r = scan (u .clock) (u .base) f 7
+    module _ (tol v : ℕ) (few : tol ≤ 1_000_000) (e : v ≡ apart C (s * w)) where
+      pub miss-fits : 1_000_000 * v < 2 ^ 64
+      miss-fits = omega (arith, near .small, h .around)
 
-    m : ℕ
-    m = apart (u .clock) (f * r .period)
+      pub allowed-fits : tol * (s * w) < 2 ^ 64
+      allowed-fits = omega (arith, near .small, h .around, mul-le-mul-right (s * w) few)
 
-    by : (t : Bool) → leb (1_000_000 * m) (tol * (f * r .period)) ≡ t →
-        Answer u f tol (cond t (Pair (r .choice) (r .count - 1)) (Refused 14))
-    by true e = answer-pair u fair f range r refl tol m few refl (leb-true (1_000_000 * m) (tol * (f * r .period)) e)
-    by false e = answer-none u fair f range r refl tol m few refl (leb-false (1_000_000 * m) (tol * (f * r .period)) e)
+      within : 1_000_000 * v ≤ tol * (s * w) → Within C f tol (k * N * w)
+      within g = rw (e, got) at g
 
--- the scan's answer is an answer
-pub found-right : (u : Rule) (fair : Fair u) (f tol : ℕ) → Answer u f tol (found u f tol)
-found-right u fair f tol = by (ltb f (u .low)) (ltb (u .high) f) (ltb 1_000_000 tol) refl refl refl
-  where
-    by : (s t v : Bool) → ltb f (u .low) ≡ s → ltb (u .high) f ≡ t → ltb 1_000_000 tol ≡ v →
-        Answer u f tol
-        (cond s (Refused 12) (cond t (Refused 12) (cond v (Refused 13) (judge (u .clock) f tol (scan (u .clock) (u .base) f 7)))))
-    by true t v es et ev = outside (refl, refl, refl) (λ h. omega (arith, ltb-true f (u .low) es))
-    by false true v es et ev = outside (refl, refl, refl) (λ h. omega (arith, ltb-true (u .high) f et))
-    by false false true es et ev =
-        loose (refl, refl, refl) (ltb-false f (u .low) es, ltb-false (u .high) f et) (omega (arith, ltb-true 1_000_000 tol ev))
-    by false false false es et ev =
-        judged u fair f tol (ltb-false f (u .low) es, ltb-false (u .high) f et) (ltb-false 1_000_000 tol ev)
+      wins : 1_000_000 * v ≤ tol * (s * w) → (d x : ℕ) → Least N w d x → Wins u f tol d x
+      wins g d x q =
+          record {
+            pair = q .pair;
+            within = rw (periods d x q) at (within g);
+            best = λ e y p t. rw (periods d x q) at (near .best d x e y q p);
+          }
+
+      pub answer-pair : (r : Found) → 1_000_000 * v ≤ tol * (s * w) → r ≡ pairOf c w → Answer u f tol r
+      answer-pair r g t =
+          rw t
+          (least c w (h .some) (h .most) (near .some) (near .most) (near .full) (Answer u f tol)
+          (λ d x q. pair refl range few (wins g d x q)))
+
+      pub answer-none : tol * (s * w) < 1_000_000 * v → Answer u f tol (Refused 14)
+      answer-none g = none (refl, refl, refl) range few no-pair
+        where
+          too-far : Within C f tol (k * N * w) → ⊥
+          too-far t = omega (arith, rw (e, got) at g)
+
+          no-pair : NoPair u f tol
+          no-pair d y p t =
+              least c w (h .some) (h .most) (near .some) (near .most) (near .full) (λ r. ⊥)
+              (λ b x q. too-far (within-near tol (pair-pos C k f fit a h d y p) (near .best b x d y q p) t))
 
 module _ (u : Rule) (fair : Fair u) (f tol : ℕ) where
+  judged : InRange u f → tol ≤ 1_000_000 → (a : Place) → Placed (u .clock) (u .base) f a → a .low < 65_536 →
+      Answer u f tol (judgeAt (u .clock) tol a)
+  judged range few a h l = by (leb (1_000_000 * v) (tol * (a .step * w))) refl
+    where
+      w : ℕ
+      w = nearerOf (u .clock) (a .step) (a .low)
+
+      v : ℕ
+      v = apart (u .clock) (a .step * w)
+
+      by : (t : Bool) → leb (1_000_000 * v) (tol * (a .step * w)) ≡ t → Answer u f tol (cond t (pairOf (a .choice) w) (Refused 14))
+      by true e =
+          answer-pair u fair f range a h l w refl tol v few refl (pairOf (a .choice) w) (leb-true (1_000_000 * v) (tol * (a .step * w)) e) refl
+      by false e = answer-none u fair f range a h l w refl tol v few refl (leb-false (1_000_000 * v) (tol * (a .step * w)) e)
+
+  -- there is an answer
+  pub found-right : Answer u f tol (found u f tol)
+  found-right = by (ltb f (u .low)) (ltb (u .high) f) (ltb 1_000_000 tol) refl refl refl
+    where
+      a : Place
+      a = shortened 6 (finest (u .clock) (f * u .base))
+
+      by : (s t v : Bool) → ltb f (u .low) ≡ s → ltb (u .high) f ≡ t → ltb 1_000_000 tol ≡ v →
+          Answer u f tol (cond s (Refused 12) (cond t (Refused 12) (cond v (Refused 13) (judgeAt (u .clock) tol a))))
+      by true t v es et ev = outside (refl, refl, refl) (λ h. omega (arith, ltb-true f (u .low) es))
+      by false true v es et ev = outside (refl, refl, refl) (λ h. omega (arith, ltb-true (u .high) f et))
+      by false false true es et ev =
+          loose (refl, refl, refl) (ltb-false f (u .low) es, ltb-false (u .high) f et) (omega (arith, ltb-true 1_000_000 tol ev))
+      by false false false es et ev =
+          let range : InRange u f = (ltb-false f (u .low) es, ltb-false (u .high) f et) in
+          let fit = fitting u fair f range in
+          let g = shortened-placed (u .clock) (u .base) f fit 6 (finest (u .clock) (f * u .base)) (first-placed (u .clock) (u .base) f fit) refl in
+          judged range (ltb-false 1_000_000 tol ev) a (g .0) (g .1)
+
   one-pair : (c x d y : ℕ) → Wins u f tol c x → Wins u f tol d y → (c ≡ d) × (x ≡ y)
   one-pair c x d y h l = (same-c, same-x)
     where

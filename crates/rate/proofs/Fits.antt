@@ -1,39 +1,28 @@
--- No number of the code outgrows 64 bits, in millihertz either: a count has at most 128 ticks, and a pair next to the wanted rate is not far
--- past the clock's. Assumes nothing.
-use mathlib.Core.Path.{_≡_}
-use Prim.Native.Nat.{ℕ, _+_, _*_, _/_, _^_, _≤_, _<_}
-use native.Mathlib.Nat.{mul-le-mul, mul-pos, lt-of-le-of-lt, div-le-self}
+-- No number of the code outgrows 64 bits, in millihertz either. Assumes nothing.
+use Prim.Native.Nat.{ℕ, _+_, _-_, _*_, _^_, _≤_, _<_}
+use native.Mathlib.Nat.{mul-le-mul, mul-le-mul-right, lt-of-le-of-lt}
 use native.Mathlib.Omega.{arith}
 use lib.Dec.{lit<}
-use Rattle.divider.specs.Divider.{dividerOf}
-use Rattle.rate.specs.Scan.{Fit, Small, clip}
-use Rattle.rate.proofs.Scanned.{ticks-are, counted}
+use Rattle.rate.specs.Near.{Fit, Around}
 
 module _ (k d : ℕ) (hk : k ≤ 2) (hd : d ≤ 64) where
   pub ticks-fit : k * d < 2 ^ 64
   ticks-fit = lt-of-le-of-lt (mul-le-mul {n₂ = 2} {m₂ = 64} hk hd) (lit< tt)
 
-  pub rate-fits : (f : ℕ) → f ≤ 4_000_000_000 → f * (k * d) < 2 ^ 64
-  rate-fits f h = lt-of-le-of-lt (mul-le-mul {n₂ = 4_000_000_000} {m₂ = 128} h (mul-le-mul {n₂ = 2} {m₂ = 64} hk hd)) (lit< tt)
-
-  counts-fit : (m : ℕ) → m ≤ 65_536 → k * d * m < 2 ^ 64
-  counts-fit m h = lt-of-le-of-lt (mul-le-mul {n₂ = 128} {m₂ = 65_536} (mul-le-mul {n₂ = 2} {m₂ = 64} hk hd) h) (lit< tt)
-
   pub period-fits : (x : ℕ) → x ≤ 65_535 → k * d * (x + 1) < 2 ^ 64
-  period-fits x h = counts-fit (x + 1) (omega arith)
+  period-fits x h =
+      lt-of-le-of-lt (mul-le-mul {n₂ = 128} {m₂ = 65_536} (mul-le-mul {n₂ = 2} {m₂ = 64} hk hd) (omega arith)) (lit< tt)
 
-  pub clipped-fits : (m q : ℕ) → m ≡ clip q → k * d * m < 2 ^ 64
-  clipped-fits m q e = counts-fit m (omega arith)
+pub step-fits : (C k f : ℕ) → Fit C k f → f * k < 2 ^ 64
+step-fits C k f fit = lt-of-le-of-lt (mul-le-mul {n₂ = 4_000_000_000} {m₂ = 2} (fit .rate) (fit .twice)) (lit< tt)
 
-pub quotient-fits : (C n : ℕ) → C ≤ 40_000_000_000 → C / n + 1 < 2 ^ 64
-quotient-fits C n h = omega (arith, div-le-self C n)
+-- the products that are compared: of a distance, which is at most a step, and one of the two counts
+module _ (C s m : ℕ) (h : Around C s m) where
+  pub high-fits : m + 1 < 2 ^ 64
+  high-fits = omega (arith, h, mul-le-mul-right {m = 1} {n = s} m (omega (arith, h)))
 
-module _ (C k f c d : ℕ) (fit : Fit C k f) (hc : 0 < c) (lc : c ≤ 7) (e : d ≡ dividerOf c) where
-  pub rate-some : 0 < f * (k * d)
-  rate-some = mul-pos (fit .some) (ticks-are C k f fit c d hc lc e .0)
+  pub short-near : C - s * m ≤ s
+  short-near = omega (arith, h)
 
-  pub low-small : (m : ℕ) → m ≡ clip (C / (f * (k * d))) → Small C f (k * d * m)
-  low-small m h = counted C k f fit (k * d) m (ticks-are C k f fit c d hc lc e) (omega arith) (omega arith)
-
-  pub high-small : (m : ℕ) → m ≡ clip (C / (f * (k * d)) + 1) → Small C f (k * d * m)
-  high-small m h = counted C k f fit (k * d) m (ticks-are C k f fit c d hc lc e) (omega arith) (omega arith)
+  pub product-fits : (v z : ℕ) → v ≤ s → z ≤ m + 1 → v * z < 2 ^ 64
+  product-fits v z l t = omega (arith, h, mul-le-mul l t)

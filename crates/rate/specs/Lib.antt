@@ -2,4 +2,4 @@
 pub mod Rate
 pub mod Settled
 pub mod Sums
-pub mod Scan
+pub mod Near

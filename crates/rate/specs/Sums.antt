@@ -40,7 +40,7 @@ abbrev pub twelve : Rule
 twelve = record { clock = 12; low = 1; high = 12; base = 1 }
 
 abbrev pub slow : Rule
-slow = record { clock = 40_000_000; low = 1; high = 40_000; base = 1 }
+slow = record { clock = 40_000_000; low = 10; high = 40_000; base = 1 }
 
 pub record FarSums : Type 0 where
   pub midway : Gives twelve 5 1_000_000 1 1

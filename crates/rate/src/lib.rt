@@ -1,8 +1,8 @@
 // The rate finder: the divider choice and X whose rate is nearest to a wanted one, and the rate that a choice and X give.
 ghost use mathlib.Core.Path.{_≡_};
-ghost use Prim.Native.Nat.{_*_, _≤_, _<_, _^_};
+ghost use Prim.Native.Nat.{_≤_, _<_, _^_};
 ghost use Rattle.rate.specs.Rate.{pwm, spi, rateOf, apart, Answer};
-ghost use Rattle.rate.specs.Scan.{Fair, Fit, Small, clip, pick, step, scan};
+ghost use Rattle.rate.specs.Near.{Fair, Fit, Placed, Around, coarserOf, nearerOf, pairOf};
 use divider::divider;
 
 // The clock's rate and the range of wanted rates, all in one unit, and the factor of a period: what PWM and SPI differ in.
@@ -24,11 +24,12 @@ pub enum Rated {
     Unset(u8),
 }
 
-// A pair on the way: its divider choice, X + 1, and its period.
-struct Best {
+// A divider choice and its counts next to the wanted rate: `low` counts are at or under the clock's rate, one more is past it. A step is
+// the wanted rate times the ticks of a count.
+struct Place {
     choice: u64,
-    count: u64,
-    period: u64,
+    step: u64,
+    low: u64,
 }
 
 const PWM: Rule = Rule {
@@ -45,24 +46,10 @@ const SPI: Rule = Rule {
     base: 2,
 };
 
-fn clipped(q: u64) -> u64
-    ensures { λ r. ⌜ r ≡ clip q ⌝ }
+// How far a number is from the clock's rate.
+fn miss(clock: u64, got: u64) -> u64
+    ensures { λ r. ⌜ r ≡ apart clock got ⌝ }
 {
-    if q < 1 {
-        1
-    } else if q > 65_536 {
-        65_536
-    } else {
-        q
-    }
-}
-
-// How far the rate `f` is from the clock's, over a period.
-fn miss(clock: u64, f: u64, period: u64) -> u64
-    requires { ⌜ f * period < 2 ^ 64 ⌝ }
-    ensures { λ r. ⌜ r ≡ apart clock (f * period) ⌝ }
-{
-    let got = f * period;
     if got <= clock {
         clock - got
     } else {
@@ -70,71 +57,66 @@ fn miss(clock: u64, f: u64, period: u64) -> u64
     }
 }
 
-// The better of the two by error, then period; `a` where neither is. Errors are fractions, so each is crossed with the other's period.
-fn better(clock: u64, f: u64, a: Best, b: Best) -> Best
-    requires { ⌜ (Small clock f (a .period)) × (Small clock f (b .period)) ⌝ }
-    ensures { λ r. ⌜ (r ≡ pick clock f a b) × (Small clock f (r .period)) ⌝ }
+// The same place by the next coarser divider.
+fn coarser(a: Place) -> Place
+    requires { ⌜ (a .choice < 8) × (a .step < 2 ^ 63) ⌝ }
+    ensures { λ r. ⌜ r ≡ coarserOf a ⌝ }
 {
-    let new = miss(clock, f, b.period) * a.period;
-    let old = miss(clock, f, a.period) * b.period;
-    if new < old {
-        return b;
+    Place {
+        choice: a.choice + 1,
+        step: 2 * a.step,
+        low: a.low / 2,
     }
-    if new == old {
-        if b.period < a.period {
-            return b;
-        }
+}
+
+// The place by the finest divider whose counts go past the clock's rate.
+fn placed(clock: u64, base: u64, f: u64) -> Place
+    requires { ⌜ Fit clock base f ⌝ }
+    ensures { λ r. ⌜ (Placed clock base f r) × (r .low < 65_536) ⌝ }
+{
+    let step = f * base;
+    let mut a = Place {
+        choice: 1,
+        step: step,
+        low: clock / step,
+    };
+    while 65_536 <= a.low {
+        a = coarser(a);
     }
     a
 }
 
-// The best of `best` and the two pairs of `choice` that are next to the wanted rate: the one at or above it, the one below.
-fn tried(clock: u64, base: u64, f: u64, choice: u64, best: Best) -> Best
-    requires { ⌜ (Fit clock base f) × (0 < choice) × (choice ≤ 7) × (Small clock f (best .period)) ⌝ }
-    ensures { λ r. ⌜ r ≡ step clock base f choice best ⌝ }
+// The nearer of the place's two counts, the fewer where both are as near. Errors are fractions, so each is crossed with the other's count.
+fn nearer(clock: u64, step: u64, low: u64) -> u64
+    requires { ⌜ Around clock step low ⌝ }
+    ensures { λ r. ⌜ r ≡ nearerOf clock step low ⌝ }
 {
-    let ticks = base * divider(choice);
-    let q = clock / (f * ticks);
-    let low = clipped(q);
-    let high = clipped(q + 1);
-    let mid = better(
-        clock,
-        f,
-        best,
-        Best {
-            choice: choice,
-            count: low,
-            period: ticks * low,
-        },
-    );
-    better(
-        clock,
-        f,
-        mid,
-        Best {
-            choice: choice,
-            count: high,
-            period: ticks * high,
-        },
-    )
+    let short = clock - step * low;
+    let over = step - short;
+    let high = low + 1;
+    if short * high <= over * low {
+        return low;
+    }
+    high
 }
 
-// The best pair of all.
-fn nearest(clock: u64, base: u64, f: u64) -> Best
-    requires { ⌜ Fit clock base f ⌝ }
-    ensures { λ r. ⌜ r ≡ scan clock base f 7 ⌝ }
+// The pair of a choice and a count, with the smaller divider where two make the same period.
+fn pair(choice: u64, count: u64) -> Found
+    requires { ⌜ (0 < count) × (count ≤ 65_536) ⌝ }
+    ensures { λ r. ⌜ r ≡ pairOf choice count ⌝ }
 {
-    let mut best = Best {
-        choice: 1,
-        count: 1,
-        period: base,
-    };
-    let mut choice: u64 = 0;
-    while choice < 7 {
-        choice += 1;
-        best = tried(clock, base, f, choice, best);
+    if 1 < choice {
+        if count <= 32_768 {
+            return Found::Pair {
+                choice: choice - 1,
+                x: 2 * count - 1,
+            };
+        }
     }
-    best
+    Found::Pair {
+        choice: choice,
+        x: count - 1,
+    }
 }
 
 // The answer for the wanted rate `f` and the tolerance `tol`, in parts per million.
@@ -151,14 +133,11 @@ fn find(rule: Rule, f: u64, tol: u64) -> Found
     if 1_000_000 < tol {
         return Found::Refused(13);
     }
-    let best = nearest(rule.clock, rule.base, f);
-    let p = best.period;
-    if 1_000_000 * miss(rule.clock, f, p) <= tol * (f * p) {
-        let x = best.count - 1;
-        Found::Pair {
-            choice: best.choice,
-            x: x,
-        }
+    let a = placed(rule.clock, rule.base, f);
+    let count = nearer(rule.clock, a.step, a.low);
+    let got = a.step * count;
+    if 1_000_000 * miss(rule.clock, got) <= tol * got {
+        pair(a.choice, count)
     } else {
         Found::Refused(14)
     }

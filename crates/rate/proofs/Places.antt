@@ -1,0 +1,219 @@
+-- A place has the two counts next to the wanted rate, and every pair lies on the far side of one of them. Assumes nothing.
+use mathlib.Core.Path.{_≡_, refl, ap, _∙_}
+use mathlib.Core.Bool.{Bool, true, false, cond}
+use Prim.Native.Nat.{ℕ, zero, suc, _+_, _-_, _*_, _/_, _^_, _≤_, _<_}
+use native.Mathlib.Nat.{le-refl, mul-pos, mul-le-mul, mul-le-mul-left, mul-le-mul-right, mul-lt-mul-of-pos-left, eq-of-mul-eq-mul-left, le-div-iff-mul-le, div-lt-iff-lt-mul}
+use native.Mathlib.Omega.{arith}
+use native.Mathlib.Decide.{decLe}
+use lib.Dec.{ltb}
+use borrow.Author.Tests.{ltb-true, ltb-false}
+use Rattle.divider.specs.Divider.{dividerOf}
+use Rattle.rate.specs.declared.Place.{Place}
+use Rattle.rate.specs.Rate.{apart, IsPair, AsGood}
+use Rattle.rate.specs.Near.{Fit, Placed, coarserOf, shortened, finest, short, over}
+use Rattle.rate.proofs.Dividers.{some, most, grow, times, twice, next}
+use Rattle.rate.proofs.Order.{trans, longer, shorter}
+
+-- the first place, and the next
+module _ (C k f : ℕ) (fit : Fit C k f) where
+  step-some : (c : ℕ) → 1 ≤ c → c ≤ 7 → 0 < f * (k * dividerOf c)
+  step-some c h l = mul-pos (fit .some) (mul-pos (fit .base) (some c h l))
+
+  step-wide : (c : ℕ) → 1 ≤ c → c ≤ 7 → f * (k * dividerOf c) ≤ 512_000_000_000
+  step-wide c h l = mul-le-mul (fit .rate) (mul-le-mul {n₂ = 2} {m₂ = 64} (fit .twice) (most c h l))
+
+  pub first-some : 0 < f * k
+  first-some = mul-pos (fit .some) (fit .base)
+
+  pub first-placed : Placed C k f (finest C (f * k))
+  first-placed =
+      record {
+        some = omega arith;
+        most = omega arith;
+        step = omega arith;
+        around =
+            record {
+              clock = fit .clock;
+              wide = omega (arith, step-wide 1 (omega arith) (omega arith));
+              under = omega (arith, le-div-iff-mul-le first-some .0 (le-refl (C / (f * k))));
+              past = omega (arith, div-lt-iff-lt-mul {x = C} {y = C / (f * k) + 1} first-some .0 (omega arith));
+            };
+        full = λ h. absurd (omega arith);
+      }
+
+  -- the last divider reaches all
+  more : (a : Place) → Placed C k f a → 65_536 ≤ a .low → a .choice < 7
+  more a h l = by (decLe (a .choice) 6)
+    where
+      by : Dec (a .choice ≤ 6) → a .choice < 7
+      by (yes t) = omega arith
+      by (no t) =
+          let e : a .choice ≡ 7 = omega (arith, h .most) in
+          let g : a .step ≡ f * (k * 64) = h .step ∙ ap (λ (c : ℕ). f * (k * dividerOf c)) e in
+          omega (arith, h .around .under, mul-le-mul-left (a .step) l, fit .reach)
+
+  pub coarser-placed : (a : Place) → Placed C k f a → 65_536 ≤ a .low → Placed C k f (coarserOf a)
+  coarser-placed a h l =
+      record {
+        some = omega arith;
+        most = omega (arith, more a h l);
+        step = step;
+        around =
+            record {
+              clock = fit .clock;
+              wide = rw step (step-wide (a .choice + 1) (omega arith) (omega (arith, more a h l)));
+              under = omega (arith, h .around .under, mul-le-mul-left (a .step) half);
+              past = omega (arith, h .around .past, mul-le-mul-left (a .step) whole);
+            };
+        full = λ t. omega arith;
+      }
+    where
+      half : 2 * (a .low / 2) ≤ a .low
+      half = omega arith
+
+      whole : a .low + 1 ≤ 2 * (a .low / 2 + 1)
+      whole = omega arith
+
+      step : 2 * a .step ≡ f * (k * dividerOf (a .choice + 1))
+      step = rw (next (a .choice) (h .some) (more a h l)) (omega (arith, h .step))
+
+  -- a count that is short enough is reached in six turns
+  abbrev Short : Place → Type 0
+  Short b = Placed C k f b × (b .low < 65_536)
+
+  pub shortened-placed : (i : ℕ) (a : Place) → Placed C k f a → a .choice + i ≡ 7 → Short (shortened i a)
+  shortened-placed zero a h e = (h, at-last (decLe 65_536 (a .low)))
+    where
+      at-last : Dec (65_536 ≤ a .low) → a .low < 65_536
+      at-last (yes t) = absurd (omega (arith, more a h t))
+      at-last (no t) = omega arith
+  shortened-placed (suc i) a h e =
+      by (ltb (a .low) 65_536) refl (λ l. shortened-placed i (coarserOf a) (coarser-placed a h l) (omega arith))
+    where
+      by : (t : Bool) → ltb (a .low) 65_536 ≡ t → (65_536 ≤ a .low → Short (shortened i (coarserOf a))) →
+          Short (cond t a (shortened i (coarserOf a)))
+      by true t g = (h, ltb-true (a .low) 65_536 t)
+      by false t g = g (ltb-false (a .low) 65_536 t)
+
+-- no count at all is never the nearer
+pub some-count : (C s m : ℕ) → 0 < C → short C s m * (m + 1) ≤ over C s m * m → 1 ≤ m
+some-count C s zero fast h = absurd (omega arith)
+some-count C s (suc m) fast h = omega arith
+
+-- the periods of m counts of n ticks and of one more, next to the wanted rate
+module _ (C f n m : ℕ) (hn : 0 < n) (under : f * n * m ≤ C) (past : C < f * n * (m + 1)) where
+  misses : (apart C (f * (n * m)) ≡ short C (f * n) m) × (apart C (f * (n * (m + 1))) ≡ over C (f * n) m)
+  misses = (omega arith, omega arith)
+
+  grows : n * m < n * (m + 1)
+  grows = omega arith
+
+  -- the fewer are as good as one more, or the other way round
+  pub fewer : (N : ℕ) → short C (f * n) m * (m + 1) ≤ over C (f * n) m * m → AsGood C f (n * m) N (n * (m + 1)) 0
+  fewer N h =
+      record {
+        near = rw (misses .0, misses .1) (omega (arith, mul-le-mul-left n h));
+        small = λ e. omega (arith, grows);
+        fine = λ e t. absurd (omega (arith, grows));
+      }
+
+  pub one-more : (N : ℕ) → over C (f * n) m * m < short C (f * n) m * (m + 1) → AsGood C f (n * (m + 1)) N (n * m) 0
+  one-more N h =
+      record {
+        near = rw (misses .0, misses .1) (omega (arith, mul-le-mul-left n h));
+        small = λ e. absurd (strict (rw (misses .0, misses .1) at e));
+        fine = λ e t. absurd (omega (arith, grows));
+      }
+    where
+      strict : over C (f * n) m * (n * m) ≡ short C (f * n) m * (n * (m + 1)) → ⊥
+      strict e = omega (arith, mul-le-mul-left n h)
+
+-- a pair of w counts of the divider N that no smaller divider makes too
+pub record Least (N w c x : ℕ) : Type 0 where
+  pub pair : IsPair c x
+  pub same : dividerOf c * (x + 1) ≡ N * w
+  pub full : 1 < c → 32_768 ≤ x
+
+-- no pair of the same counts has a smaller divider
+least-wins : {N w c x : ℕ} → Least N w c x → (d y : ℕ) → IsPair d y → N * w ≡ dividerOf d * (y + 1) → dividerOf c ≤ dividerOf d
+least-wins {N} {w} {c} {x} h d y p e = by (decLe c d)
+  where
+    by : Dec (c ≤ d) → dividerOf c ≤ dividerOf d
+    by (yes t) = grow c d (h .pair .some) t (p .most)
+    by (no t) =
+        let a : 2 * dividerOf d * (x + 1) ≤ dividerOf c * (x + 1) = mul-le-mul-right (x + 1) (twice d c (p .some) (omega arith) (h .pair .most)) in
+        let b : dividerOf d * (y + 1) < dividerOf d * (2 * (x + 1)) =
+        mul-lt-mul-of-pos-left (omega (arith, h .full (omega (arith, p .some)), p .short)) (some d (p .some) (p .most)) in
+        absurd (omega (arith, h .same))
+
+module _ (C k f : ℕ) (fit : Fit C k f) (a : Place) (h : Placed C k f a) where
+  abbrev N : ℕ
+  N = dividerOf (a .choice)
+
+  abbrev n : ℕ
+  n = k * N
+
+  abbrev m : ℕ
+  m = a .low
+
+  abbrev period : ℕ → ℕ → ℕ
+  period d y = k * dividerOf d * (y + 1)
+
+  ticks : 0 < n
+  ticks = mul-pos (fit .base) (some (a .choice) (h .some) (h .most))
+
+  pub pair-pos : (d y : ℕ) → IsPair d y → 0 < period d y
+  pair-pos d y p = mul-pos (mul-pos (fit .base) (some d (p .some) (p .most))) (omega arith)
+
+  under : f * n * m ≤ C
+  under = omega (arith, rw (h .step) at h .around .under)
+
+  past : C < f * n * (m + 1)
+  past = omega (arith, rw (h .step) at h .around .past)
+
+  -- each pair has at most the place's counts, or one more at least
+  sides : (R : Type 0) (d y : ℕ) → IsPair d y → (period d y ≤ n * m → R) → (n * (m + 1) ≤ period d y → R) → R
+  sides R d y p few many = by (decLe (a .choice) d)
+    where
+      counts : (z : ℕ) → period d y ≡ n * z → R
+      counts z e = of (decLe z m)
+        where
+          of : Dec (z ≤ m) → R
+          of (yes t) = few (omega (arith, mul-le-mul-left n t))
+          of (no t) = let l : m + 1 ≤ z = omega arith in many (omega (arith, mul-le-mul-left n l))
+
+      by : Dec (a .choice ≤ d) → R
+      by (yes t) = counts (2 ^ (d - a .choice) * (y + 1)) (rw (times (a .choice) d (h .some) t (p .most)) (omega arith))
+      by (no t) =
+          let l : y + 1 ≤ 2 * m = omega (arith, p .short, h .full (omega (arith, p .some))) in
+          let g : k * (2 * dividerOf d * m) ≤ k * (N * m) =
+          mul-le-mul-left k (mul-le-mul-right m (twice d (a .choice) (p .some) (omega arith) (h .most))) in
+          few (omega (arith, mul-le-mul-left (k * dividerOf d) l))
+
+  -- so the nearer of the two counts is as good as each pair
+  module _ (fast : 0 < C) (c x : ℕ) where
+    pub fewer-best : short C (f * n) m * (m + 1) ≤ over C (f * n) m * m → Least N m c x → (d y : ℕ) → IsPair d y →
+        AsGood C f (n * m) (dividerOf c) (period d y) (dividerOf d)
+    fewer-best g l d y p =
+        sides (AsGood C f (n * m) (dividerOf c) (period d y) (dividerOf d)) d y p
+        (λ s. longer fast s (omega (arith, under)) (λ e. least-wins l d y p (same e)))
+        (λ s.
+        trans (mul-pos ticks (some-count C (f * n) m fast g)) (mul-pos ticks (omega arith)) (pair-pos d y p)
+        (fewer C f n m ticks under past (dividerOf c) g)
+        (shorter s (omega (arith, past)) (λ e. omega arith)))
+      where
+        same : n * m ≡ period d y → N * m ≡ dividerOf d * (y + 1)
+        same e = eq-of-mul-eq-mul-left k (fit .base) (N * m) (dividerOf d * (y + 1)) (omega arith)
+
+    pub more-best : over C (f * n) m * m < short C (f * n) m * (m + 1) → Least N (m + 1) c x → (d y : ℕ) → IsPair d y →
+        AsGood C f (n * (m + 1)) (dividerOf c) (period d y) (dividerOf d)
+    more-best g l d y p =
+        sides (AsGood C f (n * (m + 1)) (dividerOf c) (period d y) (dividerOf d)) d y p
+        (λ s.
+        trans (mul-pos ticks (omega arith)) (omega (arith, pair-pos d y p)) (pair-pos d y p)
+        (one-more C f n m ticks under past (dividerOf c) g)
+        (longer fast s (omega (arith, under)) (λ e. omega arith)))
+        (λ s. shorter s (omega (arith, past)) (λ e. least-wins l d y p (same e)))
+      where
+        same : n * (m + 1) ≡ period d y → N * (m + 1) ≡ dividerOf d * (y + 1)
+        same e = eq-of-mul-eq-mul-left k (fit .base) (N * (m + 1)) (dividerOf d * (y + 1)) (omega arith)

@@ -1,0 +1,22 @@
+-- `rate::nearer` meets its contract. Assumes nothing.
+use native.Mathlib.Nat.{le-refl, le-of-lt, sub-le, le-add-right}
+use borrow.Author.Needs.{needs}
+use Rattle.laws.proofs.Cases.{cases}
+use Rattle.rate.proofs.Fits.{high-fits, short-near, product-fits}
+use Rattle.rate.proofs.nearer.Statement.{statement}
+use Rattle.rate.proofs.nearer.Tie as tie
+
+ruleset compared = (product-fits, short-near, sub-le, le-refl, le-add-right)
+
+pub nearer-spec : {M : Type 1} → statement M
+nearer-spec =
+    tie.close
+    (tie.spec
+    (λ c. search needs)
+    (λ c. search needs)
+    (λ c. search needs)
+    (λ c. record { fits = search high-fits })
+    (λ c. record { fits = search compared })
+    (λ c. record { fits = search compared })
+    (λ c. search (cases, le-of-lt))
+    (λ c. search cases))
