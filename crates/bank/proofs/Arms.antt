@@ -1,6 +1,6 @@
 -- A rule by cases on what a record asks, at the case that a match has found.
 -- Assumes nothing.
-use mathlib.Core.Path.{_≡_, sym, ap, _∙_}
+use mathlib.Core.Path.{_≡_, sym, _∙_}
 use mathlib.Core.Bool.{Bool, true, false, cond}
 use Prim.Native.Nat.{ℕ}
 use Rattle.wire.specs.declared.SelectEvent.{SelectEvent}
@@ -15,23 +15,11 @@ use Rattle.pwm.specs.Pwm.{ticksOf}
 use Rattle.i2c.specs.declared.I2c.{I2c}
 use Rattle.select.specs.Select.{encoderRouted, pwmRouted, i2cRouted}
 use Rattle.laws.proofs.Cases.{taken, left}
-use Rattle.bank.specs.Events.{encoderRefusal, pwmRefusal, i2cRefusal, encoderAfter, pwmAfter, i2cAfter}
+use Rattle.events.specs.Events.{encoderRefusal, pwmRefusal, i2cRefusal}
+use Rattle.events.proofs.Arms.{arm}
 use Rattle.bank.specs.declared.Bank.{Bank}
 use Rattle.bank.specs.Bank.{refusalOf, tickRouted, selectAfter}
 use Rattle.bank.specs.Parts.{readingFrom, encoderTurn, pwmTurn, i2cTurn, swept}
-
--- one law for every rule
-arm : {E Y : Type 0} (f : E → Y) (x y : E) (o : Y) → x ≡ y → o ≡ f y → o ≡ f x
-arm f x y o e h = h ∙ ap f (sym e)
-
-pub encoder-arm : (e o : Encoder) (x y : EncoderEvent) → x ≡ y → o ≡ encoderAfter y e → o ≡ encoderAfter x e
-encoder-arm e o x y = arm (λ (v : EncoderEvent). encoderAfter v e) x y o
-
-pub pwm-arm : (p o : Pwm) (x y : PwmEvent) → x ≡ y → o ≡ pwmAfter y p → o ≡ pwmAfter x p
-pwm-arm p o x y = arm (λ (v : PwmEvent). pwmAfter v p) x y o
-
-pub i2c-arm : (c o : I2c) (x y : I2cEvent) → x ≡ y → o ≡ i2cAfter y c → o ≡ i2cAfter x c
-i2c-arm c o x y = arm (λ (v : I2cEvent). i2cAfter v c) x y o
 
 pub select-arm : (b o : Bank) (x y : SelectEvent) → x ≡ y → o ≡ selectAfter y b → o ≡ selectAfter x b
 select-arm b o x y = arm (λ (v : SelectEvent). selectAfter v b) x y o

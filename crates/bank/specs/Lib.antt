@@ -1,4 +1,3 @@
-pub mod Events
 pub mod Bank
 pub mod Parts
 pub mod Facts

@@ -9,7 +9,7 @@ use Rattle.encoder.specs.declared.Encoder.{Encoder}
 use Rattle.pwm.specs.declared.Pwm.{Pwm}
 use Rattle.i2c.specs.declared.I2c.{I2c}
 use Rattle.bank.specs.declared.Bank.{Bank}
-use Rattle.bank.specs.Events.{encoderReading, pwmReading, i2cReading, encoderAfter, pwmAfter, i2cAfter}
+use Rattle.events.specs.Events.{encoderReading, pwmReading, i2cReading, encoderAfter, pwmAfter, i2cAfter}
 use Rattle.bank.specs.Bank.{selectAfter, ticked}
 
 -- the encoder and the PWM channel that a record can concern; 0 where it concerns none

@@ -26,7 +26,7 @@ use Rattle.wire.specs.declared.EncoderEvent.the-variants.{Pins}
 use Rattle.wire.specs.declared.Record.the-variants.{Encoder as OfEncoder}
 use Rattle.wire.proofs.Listing.{listed}
 use Rattle.bank.specs.declared.Bank.{Bank}
-use Rattle.bank.specs.Events.{encoderRegister}
+use Rattle.events.specs.Events.{encoderRegister}
 use Rattle.bank.specs.Bank.{encoderAt, fresh, refusalOf, readingOf, effectOf, answerOf}
 use Rattle.replay.specs.Replay.{Run, going, halted, turnOf, step, runOf, playOf, replayFrom, replayOf}
 use Rattle.travel.specs.Stretch.{Event, pins, nothing, eventFrom, eventsOf, pinsAmong, pinsIn}

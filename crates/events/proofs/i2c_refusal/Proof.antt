@@ -1,0 +1,16 @@
+use borrow.Author.Needs.{needs}
+use Rattle.events.proofs.i2c_refusal.Statement.{statement}
+use Rattle.events.proofs.i2c_refusal.Tie as tie
+
+pub i2c-refusal-spec : {M : Type 1} → statement M
+i2c-refusal-spec =
+    tie.close
+    (tie.spec
+    (λ c. search needs)
+    (λ c κs. search needs)
+    (λ c. search needs)
+    (λ c κs. search needs)
+    (λ c. search needs)
+    (λ c. cc)
+    (λ c. cc)
+    (λ c. cc))
