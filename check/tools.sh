@@ -1,8 +1,8 @@
 # For the scripts of tests/, which source it: what is compiled by Rattle is for x86-64, on any machine.
-# need COMMAND PACKAGE: installs the Debian package where the command is missing.
+# need COMMAND PACKAGE OPTION..: installs the Debian package where the command is missing.
 need() {
     command -v "$1" >/dev/null && return
-    apt-get update -qq >&2 && apt-get install -y -qq "$2" >/dev/null 2>&1
+    apt-get update -qq >&2 && apt-get install -y -qq "${@:2}" >/dev/null 2>&1
     command -v "$1" >/dev/null && return
     echo "FAIL $0: $1 is missing, and $2 cannot be installed"
     exit 1

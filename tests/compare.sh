@@ -8,11 +8,13 @@
 set -u
 cd "$(dirname "$0")/.." || exit 2
 . check/tools.sh
+. check/system64.sh
 need cargo cargo
 work=$(mktemp -d)
 trap 'rm -rf "$work"' EXIT
 seed=${SEED:-$(date +%s)}
 programs=target/check/release
+wrapped=(-Wl,--wrap=rvz_replay check/compare/wrong.c)
 
 build_driver() {
     $cc -std=c99 -O2 -Wall -Wextra -Wpedantic -Werror -Iinclude "${@:2}" -o "$1" check/compare/driver.c target/staticlib/librivandoze.a
@@ -31,22 +33,24 @@ against() {
     [ "${PIPESTATUS[0]}" -eq 0 ] || failed=1
 }
 
-# verdict DRIVER..: the status of a short comparison, how many tests failed, and for how many the driver gave no answer.
+# verdict MODE DRIVER..: the status of a comparison, how many tests failed, and for how many the driver gave no answer.
 verdict() {
-    "$programs/compare" short "$seed" "$work" "$@" >"$work/out" 2>&1
+    "$programs/compare" "$1" "$seed" "$work" "${@:2}" >"$work/out" 2>&1
     echo "$? $(grep -c '^FAIL ' "$work/out") $(grep -c 'without an answer' "$work/out")"
 }
 
 # The comparison itself: a right driver is let pass, and each with a mistake is seen.
 test_of_the_tests() {
-    same 'compare: a driver without a mistake is let pass' '0 0 0' "$(verdict "$programs/stand-in" none)"
+    same 'compare: a driver without a mistake is let pass' '0 0 0' "$(verdict short "$programs/stand-in" none)"
     local mistakes mistake
     mapfile -t mistakes < <("$programs/stand-in" list)
     same 'compare: there are mistakes to make' 63 ${#mistakes[@]}
     for mistake in "${mistakes[@]}"; do
-        same "compare: a driver with the mistake $mistake is seen" '1 1 0' "$(verdict "$programs/stand-in" "$mistake")"
+        same "compare: a driver with the mistake $mistake is seen" '1 1 0' "$(verdict short "$programs/stand-in" "$mistake")"
     done
-    same 'compare: a driver that ends without an answer is seen' '1 1 1' "$(verdict false)"
+    same 'compare: a driver that ends without an answer is seen' '1 1 1' "$(verdict short false)"
+    same 'compare: a driver that ends badly behind the answers is seen' '1 1 0' \
+        "$(verdict short bash -c '"$@"; exit 9' - "$programs/stand-in" none)"
     again
     fences
 }
@@ -66,14 +70,13 @@ again() {
 
 # The driver itself: a library that touches a byte which it may not is seen.
 fences() {
-    must 'compare: the driver builds with a library that touches what it may not' \
-        build_driver "$work/wrong" -Wl,--wrap=rvz_replay check/compare/wrong.c
+    must 'compare: the driver builds with a library that touches what it may not' build_driver "$work/wrong" "${wrapped[@]}"
     local wrong
     ulimit -c 0
     for wrong in {reads,writes}-{before,behind}-output reads-{before,behind}-log writes-log writes-output; do
-        same "compare: a library that $wrong is seen" '1 1' "$(WRONG=$wrong verdict "${runner[@]}" "$work/wrong" | cut -d' ' -f1,2)"
+        same "compare: a library that $wrong is seen" '1 1' "$(WRONG=$wrong verdict short "${runner[@]}" "$work/wrong" | cut -d' ' -f1,2)"
     done
-    same 'compare: the same with nothing touched is let pass' '0 0 0' "$(WRONG=not verdict "${runner[@]}" "$work/wrong")"
+    same 'compare: the same with nothing touched is let pass' '0 0 0' "$(WRONG=not verdict short "${runner[@]}" "$work/wrong")"
 }
 
 # The rate calls: all of PWM and many of SPI, and that one wrong answer among them is seen.
@@ -85,21 +88,37 @@ rates() {
     same 'compare: one wrong answer to a rate request is seen' "1 1" "$? $(grep -c ': wanted ' "$work/out")"
 }
 
-# The caller under the tools that watch memory. AddressSanitizer and valgrind cannot watch x86-64 code under emulation.
+# seen_by TOOL REPORT WRONGS DRIVER..: the tool ends a driver that does one of these, and says what it was.
+seen_by() {
+    local wrong
+    for wrong in $3; do
+        same "compare: a library that $wrong is seen by $1" '1 1 1 1' "$(WRONG=$wrong verdict few "${@:4}") $(grep -c "$2" "$work/out")"
+    done
+}
+
+# The caller under the tools that watch memory. The sanitizers watch what is compiled from C; valgrind watches the library too.
 watched() {
-    must 'compare: the driver builds under UndefinedBehaviorSanitizer' \
-        build_driver "$work/watched" -g -fsanitize=undefined -fno-sanitize-recover=all
-    against 'compare under UndefinedBehaviorSanitizer' short "${runner[@]}" "$work/watched"
-    if [ "$(uname -m)" != x86_64 ]; then
-        echo 'not run on this machine: AddressSanitizer, valgrind'
-        return
-    fi
-    must 'compare: the driver builds under AddressSanitizer' \
-        build_driver "$work/watched" -g -fsanitize=address,undefined -fno-sanitize-recover=all
+    local undefined=(-g -fsanitize=undefined -fno-sanitize-recover=all)
+    local address=("${undefined[@]}" -fsanitize=address -static-lib{asan,ubsan,gcc})
+    must 'compare: the driver builds under UndefinedBehaviorSanitizer' build_driver "$work/undefined" "${undefined[@]}"
+    must 'compare: the driver builds under AddressSanitizer too' build_driver "$work/address" "${address[@]}"
+    must 'compare: so does the one with the wrong library' build_driver "$work/wrong-address" "${address[@]}" "${wrapped[@]}"
+    need_system64
+    must 'compare: the drivers can be watched' make_system64 "$work"/{driver,wrong,address,wrong-address}
+    local sanitized=("${system[@]}" "$work/wrong-address")
+    local valgrind=("${system[@]}" valgrind --quiet --error-exitcode=9 --exit-on-first-error=yes --leak-check=full)
     # Leaks are left to valgrind.
-    ASAN_OPTIONS=detect_leaks=0 against 'compare under AddressSanitizer' short "$work/watched"
-    need valgrind valgrind
-    against 'compare under valgrind' few valgrind --quiet --error-exitcode=9 --leak-check=full "$work/driver"
+    export ASAN_OPTIONS=detect_leaks=0:color=never
+
+    against 'compare under UndefinedBehaviorSanitizer' short "${runner[@]}" "$work/undefined"
+    seen_by UndefinedBehaviorSanitizer 'signed integer overflow' passes-INT_MAX "${sanitized[@]}"
+    against 'compare under AddressSanitizer' alone "${system[@]}" "$work/address"
+    seen_by AddressSanitizer 'READ of size 1' "$(echo reads-{before,behind}-{log,output})" "${sanitized[@]}"
+    seen_by AddressSanitizer 'WRITE of size 1' "$(echo writes-{before,behind}-output)" "${sanitized[@]}"
+    against 'compare under valgrind' few "${valgrind[@]}" "$work/driver"
+    seen_by valgrind 'Invalid read of size 1' 'reads-behind-log reads-before-output' "${valgrind[@]}" "$work/wrong"
+    seen_by valgrind 'Invalid write of size 1' writes-behind-output "${valgrind[@]}" "$work/wrong"
+    seen_by valgrind 'depends on uninitialised value' uses-unset-memory "${valgrind[@]}" "$work/wrong"
 }
 
 case ${1:-} in

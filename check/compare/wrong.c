@@ -1,5 +1,6 @@
-/* Between the driver and the library: does what the library does and then touches one byte that it may not, as WRONG in the environment
- * says. The driver's fences, guard bytes and copy of the log have to show it. */
+/* Between the driver and the library: does what the library does and then touches one byte that it may not, or does what no program may,
+ * as WRONG in the environment says. The driver's fences, guard bytes and copy of the log, or a tool that watches, have to show it. */
+#include <limits.h>
 #include <stddef.h>
 #include <stdint.h>
 #include <stdlib.h>
@@ -13,7 +14,19 @@ static void look(const uint8_t *at) {
     (void)seen;
 }
 
-static void change(uint8_t *at) { *at ^= 1; }
+/* Without a look: the tools tell the two apart. */
+static void change(uint8_t *at) { *(volatile uint8_t *)at = 0x5A; }
+
+static void use_unset(void) {
+    volatile uint8_t *block = malloc(1);
+    if (block != NULL && *block == 0x5A) exit(3);
+    free((void *)block);
+}
+
+static void pass_int_max(void) {
+    volatile int number = INT_MAX;
+    number = number + 1;
+}
 
 uint64_t __wrap_rvz_replay(const uint8_t *log, size_t log_len, uint8_t *out, size_t out_len) {
     uint64_t answer = __real_rvz_replay(log, log_len, out, out_len);
@@ -26,5 +39,7 @@ uint64_t __wrap_rvz_replay(const uint8_t *log, size_t log_len, uint8_t *out, siz
     if (strcmp(wrong, "writes-before-output") == 0) change(out - 1);
     if (strcmp(wrong, "writes-behind-output") == 0) change(out + out_len);
     if (strcmp(wrong, "writes-output") == 0 && out_len > 0) change(out + out_len - 1);
+    if (strcmp(wrong, "uses-unset-memory") == 0) use_unset();
+    if (strcmp(wrong, "passes-INT_MAX") == 0) pass_int_max();
     return answer;
 }

@@ -3,7 +3,8 @@
 //! A request is four numbers of 64 bits (the log's length, the output's length, the seed of the
 //! pattern, the place) and the log. The answer is two numbers (the word, and 1 if the log and the
 //! bytes around it are as they were), then every byte of the guards and of the output between them.
-//! All numbers are little-endian. `compare/driver.c` speaks the same.
+//! All numbers are little-endian. The end of the requests is told when all are answered.
+//! `compare/driver.c` speaks the same.
 
 use std::io::{self, Read, Write};
 

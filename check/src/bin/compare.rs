@@ -8,7 +8,7 @@ use rivandoze_check::reference::log::{records, READING_LEN};
 use rivandoze_check::reference::record::READ;
 use rivandoze_check::text::{record_to_text, to_text};
 use std::io::{self, BufReader, BufWriter};
-use std::process::{Child, ChildStdin, Command, ExitCode, Stdio};
+use std::process::{Child, ChildStdin, Command, ExitCode, ExitStatus, Stdio};
 use std::sync::mpsc::{sync_channel, SyncSender};
 use std::thread;
 use std::time::{Duration, Instant};
@@ -17,7 +17,8 @@ use std::{fs, path::Path};
 const USAGE: &str = "\
 compare full SEED DIR DRIVER..             every family of logs
 compare short SEED DIR DRIVER..            fewer of them, up to the first difference
-compare few SEED DIR DRIVER..              some hundred logs by chance, for a slow driver
+compare alone SEED DIR DRIVER..            the same logs, of one driver, each in a block of the heap of its own
+compare few SEED DIR DRIVER..              every twentieth of these, for a slow driver
 compare seconds N SEED DIR DRIVER..        logs by chance, for so many seconds
 compare rerun FILE OUT PATTERN PLACE DRIVER..
                                            one log, with what was lent to it
@@ -26,8 +27,8 @@ A log that is answered otherwise than by the reference is written to DIR.
 
 /// How many requests may be under way.
 const AHEAD: usize = 64;
-/// How many logs of each family are a few.
-const FEW: usize = 80;
+/// Every which log of a family is one of the few.
+const FEW: usize = 20;
 
 fn main() -> ExitCode {
     let words: Vec<String> = std::env::args().skip(1).collect();
@@ -46,7 +47,8 @@ fn run(words: &[String]) -> Result<bool, String> {
     match words.first().map(String::as_str) {
         Some("full") => full(&words[1..]),
         Some("short") => short(&words[1..]),
-        Some("few") => few(&words[1..]),
+        Some("alone") => alone(&words[1..], 1),
+        Some("few") => alone(&words[1..], FEW),
         Some("seconds") => for_seconds(&words[1..]),
         Some("rerun") => rerun(&words[1..]),
         _ => Err(USAGE.into()),
@@ -72,14 +74,18 @@ fn short(words: &[String]) -> Result<bool, String> {
     Ok(true)
 }
 
-fn few(words: &[String]) -> Result<bool, String> {
+/// For a driver whose heap is watched, and which may be slow to start.
+fn alone(words: &[String], every: usize) -> Result<bool, String> {
     let against = Against::from_words(words)?;
-    let mut good = true;
-    for family in FAMILIES.iter().filter(|family| family.by_chance) {
-        let requests = family.requests(against.seed, Size::Short).take(FEW);
-        good &= against.compare(family.name, Box::new(requests))?;
-    }
-    Ok(good)
+    let seed = against.seed;
+    let requests = FAMILIES
+        .iter()
+        .flat_map(move |family| family.requests(seed, Size::Short).step_by(every))
+        .map(|request| Request {
+            place: Place::Alone,
+            ..request
+        });
+    against.compare("logs of every family", Box::new(requests))
 }
 
 fn for_seconds(words: &[String]) -> Result<bool, String> {
@@ -135,6 +141,10 @@ impl<'a> Against<'a> {
                 save(&Path::new(self.dir).join(file), &difference.request)?;
                 Ok(false)
             }
+            Outcome::EndedBadly(status) => {
+                println!("FAIL compare: {name}, seed {seed}: the driver ended with {status}");
+                Ok(false)
+            }
         }
     }
 }
@@ -161,13 +171,22 @@ fn rerun(words: &[String]) -> Result<bool, String> {
             println!("{}", difference.told());
             return Ok(false);
         }
+        Outcome::EndedBadly(status) => {
+            println!("the same, but the driver ended with {status}");
+            return Ok(false);
+        }
     }
     Ok(true)
 }
 
 enum Outcome {
-    Same { logs: u64, applied: u64 },
+    Same {
+        logs: u64,
+        applied: u64,
+    },
     Differs(Difference),
+    /// All answers were right.
+    EndedBadly(ExitStatus),
 }
 
 struct Difference {
@@ -202,12 +221,13 @@ fn ask(requests: Requests, driver: &[String]) -> Result<Outcome, String> {
         }
         outcome = (index + 1, applied + (wanted.word >> 8));
     }
-    asking
+    let stdin = asking
         .join()
         .map_err(|_| "the requests could not be made")?;
+    drop(stdin);
     let status = child.wait().map_err(|error| error.to_string())?;
     if !status.success() {
-        return Err(format!("the driver ended with {status}"));
+        return Ok(Outcome::EndedBadly(status));
     }
     let (logs, applied) = outcome;
     Ok(Outcome::Same { logs, applied })
@@ -222,15 +242,21 @@ fn started(driver: &[String]) -> Result<Child, String> {
         .map_err(|error| format!("{}: {error}", driver[0]))
 }
 
-/// Ends early where nobody takes the requests any more: the other side tells of it.
-fn send_all(requests: Requests, stdin: ChildStdin, sender: &SyncSender<Request>) {
+/// Ends early where nobody takes the requests any more: the other side tells of it. Gives the pipe
+/// back, to be closed when all are answered: an emulated system lets no answer out after that.
+fn send_all(
+    requests: Requests,
+    stdin: ChildStdin,
+    sender: &SyncSender<Request>,
+) -> BufWriter<ChildStdin> {
     let mut stdin = BufWriter::new(stdin);
     for request in requests {
         let sent: io::Result<()> = request.write_to(&mut stdin);
         if sender.send(request).is_err() || sent.is_err() {
-            return;
+            break;
         }
     }
+    stdin
 }
 
 fn reference(request: &Request) -> Answer {
