@@ -1,2 +1,3 @@
-mod Rules
+mod Turns
+mod Waits
 pub mod Proved

@@ -1,2 +1,3 @@
 pub mod Pwm
+pub mod Waits
 pub mod Facts

@@ -2,7 +2,9 @@
 use bits::number;
 use divider::divider;
 ghost use mathlib.Core.Path.{_≡_};
-ghost use Rattle.pwm.specs.Pwm.{configOf, cnfgOf, topOf, nextOf, atZero, atCmp, arrived, stepped, withRemainder, ticked, ticksOf, onCnfg, onCs, onMax, onCmp, levelOf, fresh};
+ghost use Prim.Native.Nat.{_-_};
+ghost use Rattle.pwm.specs.Pwm.{configOf, cnfgOf, topOf, arrived, stepped, withRemainder, ticksOf, onCnfg, onCs, onMax, onCmp, levelOf, fresh};
+ghost use Rattle.pwm.specs.Waits.{often, dueOf, passed, climbed, wrapped};
 
 pub struct Config {
     pub inv: bool,
@@ -36,31 +38,24 @@ fn top(mode: bool, max: u16) -> u16
     if mode { max } else { 65535 }
 }
 
-fn next(counter: u16, top: u16) -> u16
-    ensures { λ r. ⌜ r ≡ nextOf counter top ⌝ }
+// How many ticks make the next step.
+fn due(n: u64, remainder: u64) -> u64
+    ensures { λ r. ⌜ r ≡ dueOf n remainder ⌝ }
+{
+    if n <= remainder {
+        return 1;
+    }
+    n - remainder
+}
+
+// How many steps go up before one goes to 0.
+fn room(top: u64, counter: u64) -> u64
+    ensures { λ r. ⌜ r ≡ top - counter ⌝ }
 {
     if top <= counter {
         return 0;
     }
-    counter + 1
-}
-
-fn at_zero(inv: bool, counter: u16, output: bool) -> bool
-    ensures { λ r. ⌜ r ≡ atZero inv counter output ⌝ }
-{
-    if counter == 0 {
-        return !inv;
-    }
-    output
-}
-
-fn at_cmp(inv: bool, cmp: u16, counter: u16, output: bool) -> bool
-    ensures { λ r. ⌜ r ≡ atCmp inv cmp counter output ⌝ }
-{
-    if counter == cmp {
-        return inv;
-    }
-    output
+    top - counter
 }
 
 impl Pwm {
@@ -81,27 +76,62 @@ impl Pwm {
         }
     }
 
-    // The output once the counter has arrived at a value.
-    fn arrived(self, counter: u16) -> bool
-        ensures { λ r. ⌜ r ≡ arrived self counter ⌝ }
+    // The output once the counter has gone up to a value.
+    fn passed(self, counter: u16) -> bool
+        ensures { λ r. ⌜ r ≡ passed self counter ⌝ }
     {
         let c = self.config;
-        if c.mode {
-            let first = at_zero(c.inv, counter, self.output);
-            return at_cmp(c.inv, self.cmp, counter, first);
+        if c.mode & (self.counter < self.cmp) & (self.cmp <= counter) {
+            return c.inv;
         }
         self.output
     }
 
-    fn stepped(mut self) -> Pwm
-        ensures { λ r. ⌜ r ≡ stepped self ⌝ }
+    fn climbed(mut self, counter: u16) -> Pwm
+        ensures { λ r. ⌜ r ≡ climbed counter self ⌝ }
     {
-        let c = self.config;
-        let counter = next(self.counter, top(c.mode, self.max));
-        let output = self.arrived(counter);
+        let output = self.passed(counter);
         self.counter = counter;
         self.output = output;
         self
+    }
+
+    // The output once the counter has gone to 0.
+    fn at_zero(self) -> bool
+        ensures { λ r. ⌜ r ≡ arrived self 0 ⌝ }
+    {
+        let c = self.config;
+        if c.mode {
+            if 0 == self.cmp {
+                return c.inv;
+            }
+            return !c.inv;
+        }
+        self.output
+    }
+
+    fn wrapped(mut self) -> Pwm
+        ensures { λ r. ⌜ r ≡ wrapped self ⌝ }
+    {
+        let output = self.at_zero();
+        self.counter = 0;
+        self.output = output;
+        self
+    }
+
+    // s steps: the output depends only on the way since the counter was last 0.
+    fn steps(self, s: u64) -> Pwm
+        ensures { λ r. ⌜ r ≡ often stepped s self ⌝ }
+    {
+        let c = self.config;
+        let top = top(c.mode, self.max) as u64;
+        let counter = self.counter as u64;
+        let room = room(top, counter);
+        if s <= room {
+            return self.climbed((counter + s) as u16);
+        }
+        let k = (s - room - 1) % (top + 1);
+        self.wrapped().climbed(k as u16)
     }
 
     fn with_remainder(mut self, r: u8) -> Pwm
@@ -111,31 +141,21 @@ impl Pwm {
         self
     }
 
-    pub fn tick(self) -> Pwm
-        ensures { λ r. ⌜ r ≡ ticked self ⌝ }
+    // A record of t ticks.
+    pub fn ticks(self, t: u64) -> Pwm
+        ensures { λ r. ⌜ r ≡ ticksOf t self ⌝ }
     {
         let n = divider(self.cs as u64);
         if n == 0 {
             return self;
         }
-        let r = (self.remainder as u64) + 1;
-        if r < n {
-            return self.with_remainder(r as u8);
+        let remainder = self.remainder as u64;
+        let due = due(n, remainder);
+        if t < due {
+            return self.with_remainder((remainder + t) as u8);
         }
-        self.with_remainder(0).stepped()
-    }
-
-    // A record of t ticks.
-    pub fn ticks(self, t: u64) -> Pwm
-        ensures { λ r. ⌜ r ≡ ticksOf t self ⌝ }
-    {
-        let mut p = self;
-        let mut i: u64 = 0;
-        while i < t {
-            p = p.tick();
-            i += 1;
-        }
-        p
+        let rest = t - due;
+        self.steps(rest / n + 1).with_remainder((rest % n) as u8)
     }
 
     pub fn write_cnfg(mut self, v: u8) -> Pwm

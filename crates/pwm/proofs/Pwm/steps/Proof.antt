@@ -1,0 +1,25 @@
+use Rattle.pwm.proofs.Turns.{steps-up, steps-over, turn-fits}
+use borrow.Author.Needs.{needs}
+use Rattle.pwm.proofs.Pwm.steps.Statement.{statement}
+use Rattle.pwm.proofs.Pwm.steps.Tie as tie
+
+pub steps-spec : {M : Type 1} → statement M
+steps-spec =
+    tie.close
+    (tie.spec
+    (λ c κs. search needs)
+    (λ c. search needs)
+    (λ c. search needs)
+    (λ c κs. search needs)
+    (λ c. search needs)
+    (λ c. search needs)
+    (λ c κs. search needs)
+    (λ c. search steps-up)
+    (λ c. search needs)
+    (λ c. search needs)
+    (λ c. search needs)
+    (λ c. search needs)
+    (λ c κs. search needs)
+    (λ c. record { fits = search turn-fits })
+    (λ c κs. search needs)
+    (λ c. search steps-over))
