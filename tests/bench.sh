@@ -8,7 +8,8 @@ trap 'rm -rf "$work"' EXIT
 
 must 'bench: the benchmark builds and runs' check/bench.sh 2
 sed 's/^/    /' "$work/out"
-for row in 'pins only' 'a mix, waits to 20 ticks' 'a mix, waits to 300 ticks' 'reads' 'the finder, a request'; do
+for row in 'pins only' 'a mix, waits to 20 ticks' 'a mix, waits to 300 ticks' 'a mix, waits of any length' \
+    'waits only, of any length' 'reads' 'the finder, a request'; do
     same "bench: two times and a ratio for $row" 1 "$(grep -cE "^$row +[0-9.]+ ns +[0-9.]+ ns +[0-9.]+\$" "$work/out")"
 done
 exit $failed

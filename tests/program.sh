@@ -93,7 +93,7 @@ by_chance() {
     echo "seed $seed"
     local i log
     for i in {1..60}; do
-        "$second" generate $((seed + i)) 2047 300 40 >"$work/log"
+        "$second" generate $((seed + i)) 2047 4294967295 40 >"$work/log"
         [ $((i % 3)) -ne 0 ] || truncate -s "-$((i % 7))" "$work/log"
         rvz <"$work/log" >"$work/got"
         "$second" <"$work/log" >"$work/wanted"

@@ -5,10 +5,11 @@
 use rivandoze_check::generate::{generate, Rng, Settings};
 use rivandoze_check::packed;
 use rivandoze_check::reference::log::{build, READING_LEN, RECORDS_MAX};
-use rivandoze_check::reference::record::{Fields, ENCODER, I2C, PWM, SELECT};
+use rivandoze_check::reference::record::{Fields, ENCODER, I2C, PWM, SELECT, TICKS_MAX};
 use std::time::Instant;
 
 const ALL_ENCODERS: u64 = 0xAA_AAAA_AAAA;
+const ALL_PWMS: u64 = 0x55_5555_5555;
 const OUT_LEN: usize = RECORDS_MAX * READING_LEN;
 /// Replays of one log between two looks at the clock.
 const REPLAYS: usize = 8;
@@ -65,11 +66,13 @@ fn main() {
     measure_finder(rounds);
 }
 
-fn logs() -> [(&'static str, Vec<u8>); 4] {
+fn logs() -> [(&'static str, Vec<u8>); 6] {
     [
         ("pins only", pins_only()),
         ("a mix, waits to 20 ticks", mix(20)),
         ("a mix, waits to 300 ticks", mix(300)),
+        ("a mix, waits of any length", mix(TICKS_MAX)),
+        ("waits only, of any length", waits_only()),
         ("reads", reads()),
     ]
 }
@@ -97,6 +100,31 @@ fn mix(most_ticks: u64) -> Vec<u8> {
         ..Settings::default()
     };
     generate(2, &settings)
+}
+
+/// All twenty PWM channels at once.
+fn waits_only() -> Vec<u8> {
+    let mut rng = Rng::new(5);
+    let mut records = vec![Fields::write(SELECT, 0, 0, ALL_PWMS)];
+    for channel in 0..20 {
+        let cnfg = rng.pick(&[0, 4, 5]);
+        let values = [
+            cnfg,
+            rng.between(1, 7),
+            rng.below(65_536),
+            rng.below(65_536),
+        ];
+        let writes = (0..4).zip(values);
+        records
+            .extend(writes.map(|(register, value)| Fields::write(PWM, channel, register, value)));
+    }
+    while records.len() < RECORDS_MAX - 40 {
+        records.push(Fields::ticks(rng.between(0, TICKS_MAX)));
+    }
+    for channel in 0..20 {
+        records.extend([4, 5].map(|register| Fields::read(PWM, channel, register)));
+    }
+    log_of(&records)
 }
 
 fn reads() -> Vec<u8> {

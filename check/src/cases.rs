@@ -77,6 +77,7 @@ pub const FAMILIES: &[Family] = &[
     family!("every access", false, in_order::accesses),
     family!("every five pins", false, in_order::pins),
     family!("every small PWM", false, in_order::pwms),
+    family!("waits to every edge", false, in_order::waits),
     family!("every I2C code", false, in_order::i2c_codes),
     family!("every pair of pin functions", false, in_order::selects),
 ];

@@ -7,12 +7,15 @@ mod faults;
 mod maker;
 mod rng;
 mod scenes;
+mod waits;
 
 pub use damage::{change_bytes, damage, flip_bits, near_miss_trailer, splice, truncate};
 pub use faults::{Fault, FAULTS};
 pub use rng::Rng;
+pub use waits::wait;
 
 use crate::reference::log::RECORDS_MAX;
+use crate::reference::record::TICKS_MAX;
 use maker::Maker;
 
 #[derive(Debug, Clone, PartialEq, Eq)]
@@ -35,7 +38,7 @@ impl Default for Settings {
         Settings {
             least_records: 1,
             most_records: RECORDS_MAX,
-            most_ticks: 300,
+            most_ticks: TICKS_MAX,
             refused_percent: 25,
             notes_percent: 20,
         }

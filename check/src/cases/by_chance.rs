@@ -1,21 +1,18 @@
 //! Families that are never done.
 
 use super::{lent, lent_well, Requests, Size};
-use crate::generate::{change_bytes, damage, flip_bits, generate, Rng, Settings};
-use crate::reference::log::{build, records, Trailer, LOG_MAX, RECORDS_MAX, TRAILER_LEN};
-use crate::reference::record::{Fields, ENCODER, I2C, PWM, RECORD_LEN, SELECT, TICKS};
+use crate::generate::{change_bytes, damage, flip_bits, generate, wait, Rng, Settings};
+use crate::reference::log::{build, Trailer, LOG_MAX, RECORDS_MAX, TRAILER_LEN};
+use crate::reference::pwm::Pwm;
+use crate::reference::record::{Fields, ENCODER, I2C, PWM, RECORD_LEN, SELECT, TICKS_MAX};
+use crate::reference::Bank;
 
-/// The longest wait of most logs: short ones meet every edge of small MAX and CMP.
-const SHORT_WAIT: u64 = 300;
-/// The longest wait of some logs, beyond the highest counter. The library takes the wait of a channel
-/// that runs tick by tick.
-const LONG_WAIT: u64 = 70_000;
-/// The longest wait of logs where only two channels run.
-const LONGEST_WAIT: u64 = 200_000;
+/// The longest wait, by turns: short ones meet every edge of small MAX and CMP.
+const LONGEST_WAITS: [u64; 3] = [300, 70_000, TICKS_MAX];
 
 pub fn generated(mut rng: Rng, size: Size) -> Requests {
     Box::new((0..size.of(4_000, 200_000)).map(move |index| {
-        let mut log = generate(rng.draw(), &settings(index));
+        let mut log = generate(rng.draw(), &settings(index, &mut rng));
         if rng.chance(50) {
             log = with_end_read(&log);
         }
@@ -24,7 +21,7 @@ pub fn generated(mut rng: Rng, size: Size) -> Requests {
 }
 
 /// Five logs in a hundred are full, or will be; most are short, so that there can be many.
-fn settings(index: u64) -> Settings {
+fn settings(index: u64, rng: &mut Rng) -> Settings {
     let nearly_full = RECORDS_MAX - all_reads().count();
     let (least_records, most_records) = match index % 100 {
         0..=1 => (nearly_full, nearly_full),
@@ -33,11 +30,10 @@ fn settings(index: u64) -> Settings {
         15..=49 => (1, 400),
         _ => (1, 80),
     };
-    let waits_long = most_records == 80 && index % 500 == 99;
     Settings {
         least_records,
         most_records,
-        most_ticks: if waits_long { LONG_WAIT } else { SHORT_WAIT },
+        most_ticks: rng.pick(&LONGEST_WAITS),
         ..Settings::default()
     }
 }
@@ -68,7 +64,7 @@ fn all_reads() -> impl Iterator<Item = Fields> {
 fn short_log(rng: &mut Rng) -> Vec<u8> {
     let settings = Settings {
         most_records: 60,
-        most_ticks: SHORT_WAIT,
+        most_ticks: rng.pick(&LONGEST_WAITS),
         ..Settings::default()
     };
     generate(rng.draw(), &settings)
@@ -92,7 +88,7 @@ pub fn damaged(mut rng: Rng, size: Size) -> Requests {
                 log = damage(&log, &mut rng);
             }
         }
-        lent_well(with_short_waits(log), &mut rng)
+        lent_well(log, &mut rng)
     }))
 }
 
@@ -109,7 +105,7 @@ pub fn random_records(mut rng: Rng, size: Size) -> Requests {
         for _ in 0..count {
             records.push(random_record(wide, &mut rng).to_bytes());
         }
-        lent_well(with_short_waits(build(&[], &records)), &mut rng)
+        lent_well(build(&[], &records), &mut rng)
     }))
 }
 
@@ -146,11 +142,11 @@ pub fn random_bytes(mut rng: Rng, size: Size) -> Requests {
         if rng.chance(20) {
             let mut log = short_log(&mut rng);
             log.append(&mut bytes);
-            return lent_well(with_short_waits(log), &mut rng);
+            return lent_well(log, &mut rng);
         }
         let records = (0..len / RECORD_LEN).map(|_| random_bytes_of_record(&mut rng));
         let log = build(&bytes, &records.collect::<Vec<_>>());
-        lent_well(with_short_waits(log), &mut rng)
+        lent_well(log, &mut rng)
     }))
 }
 
@@ -181,21 +177,24 @@ pub fn random_selects(mut rng: Rng, size: Size) -> Requests {
     }))
 }
 
-/// Two PWM channels of any settings, with waits in which a counter comes round more than once.
+/// Some PWM channels of any settings, with waits of any length; now and then a register is written anew
+/// in between, so that the counter may stand above the top.
 pub fn long_waits(mut rng: Rng, size: Size) -> Requests {
-    Box::new((0..size.of(20, 200)).map(move |_| {
+    Box::new((0..size.of(1_000, 30_000)).map(move |_| {
         let mut records = vec![Fields::write(SELECT, 0, 0, 0x55_5555_5555)];
-        let first = rng.below(19) as u8;
-        let channels = [first, first + 1];
+        let first = rng.below(18) as u8;
+        let channels = [first, first + 1, first + 2];
         for channel in channels {
-            let cnfg = rng.pick(&[0, 4, 4, 5, 5]);
-            let (cs, max, cmp) = (rng.between(1, 7), rng.below(65_536), rng.below(65_536));
-            for (register, value) in (0..).zip([cnfg, cs, max, cmp]) {
-                records.push(Fields::write(PWM, channel, register, value));
-            }
+            records.extend((0..4).map(|register| pwm_write(channel, register, &mut rng)));
         }
-        for _ in 0..6 {
-            records.push(Fields::ticks(rng.below(LONGEST_WAIT)));
+        for _ in 0..12 {
+            let channel = rng.pick(&channels);
+            if rng.chance(30) {
+                let register = rng.below(4) as u8;
+                records.push(pwm_write(channel, register, &mut rng));
+            }
+            let pwm = pwm_after(&records, channel);
+            records.push(Fields::ticks(wait(&pwm, TICKS_MAX, &mut rng)));
             for channel in channels {
                 records.push(Fields::read(PWM, channel, 4));
                 records.push(Fields::read(PWM, channel, 5));
@@ -204,6 +203,29 @@ pub fn long_waits(mut rng: Rng, size: Size) -> Requests {
         let bytes: Vec<_> = records.into_iter().map(Fields::to_bytes).collect();
         lent_well(build(&[], &bytes), &mut rng)
     }))
+}
+
+fn pwm_write(channel: u8, register: u8, rng: &mut Rng) -> Fields {
+    let value = match register {
+        0 => rng.pick(&[0, 1, 4, 4, 5, 5]),
+        1 => rng.between(1, 7),
+        _ => match rng.below(4) {
+            0 => rng.pick(&[0, 1, 65_534, 65_535]),
+            1 => rng.below(10),
+            _ => rng.below(65_536),
+        },
+    };
+    Fields::write(PWM, channel, register, value)
+}
+
+/// The channel as records that are all applied leave it.
+fn pwm_after(records: &[Fields], channel: u8) -> Pwm {
+    let mut bank = Bank::default();
+    for fields in records {
+        let record = fields.decode().expect("a record of this family");
+        bank.apply(record).expect("a record of this family");
+    }
+    bank.pwms[usize::from(channel)].clone()
 }
 
 /// Pins in pairs, and a 3 only where it may stand: about half of these are allowed.
@@ -229,18 +251,4 @@ fn without_lone_threes(value: u64, rng: &mut Rng) -> u64 {
         select ^= 1 << rng.below(40);
     }
     select
-}
-
-/// Damage may make any wait out of a short one, and the library may take a wait tick by tick. A wait
-/// above 32 bits is refused and costs nothing.
-fn with_short_waits(mut log: Vec<u8>) -> Vec<u8> {
-    let len = records(&log).map_or(0, |all| all.count() * RECORD_LEN);
-    let end = log.len().saturating_sub(TRAILER_LEN);
-    for record in log[end - len..end].chunks_exact_mut(RECORD_LEN) {
-        if record[0] == TICKS && record[12..] == [0; 4] {
-            record[9] &= 1;
-            record[10..12].fill(0);
-        }
-    }
-    log
 }

@@ -4,7 +4,8 @@ use super::{lent, lent_well, needed, Requests, Size};
 use crate::exchange::{Request, PLACES};
 use crate::generate::{generate, Rng, Settings};
 use crate::reference::log::{build, Trailer, EDITION, LOG_MAX, MARK, RECORDS_MAX, TRAILER_LEN};
-use crate::reference::record::{Fields, ENCODER, I2C, PWM, RECORD_LEN, SELECT};
+use crate::reference::record::{Fields, ENCODER, I2C, PWM, RECORD_LEN, SELECT, TICKS_MAX};
+use std::collections::BTreeSet;
 
 const ALL_ENCODERS: u64 = 0xAA_AAAA_AAAA;
 const ALL_PWMS: u64 = 0x55_5555_5555;
@@ -297,6 +298,64 @@ pub fn pwms(mut rng: Rng, _: Size) -> Requests {
         }
         lent_well(log_of(&records), &mut rng)
     }))
+}
+
+/// Every divider and level with edges of MAX and CMP: waits of some rounds, to the step and one tick to
+/// either side, and the longest with and without a remainder; then waits of powers of two, from a counter
+/// above the top.
+pub fn waits(mut rng: Rng, _: Size) -> Requests {
+    let all = (1..=7u64).flat_map(|cs| {
+        [0, 1, 4, 5].into_iter().flat_map(move |cnfg| {
+            let maxes = [0, 1, 2, 999, 65_534, 65_535u64].into_iter();
+            maxes.flat_map(move |max| cmps(max).map(move |cmp| [cnfg, cs, max, cmp]))
+        })
+    });
+    Box::new(all.map(move |writes| {
+        let channel = rng.below(20) as u8;
+        let write = |register: u8, value| Fields::write(PWM, channel, register, value);
+        let look = [4, 5].map(|register| Fields::read(PWM, channel, register));
+        let [_, cs, max, _] = writes;
+        let mut records = vec![Fields::write(SELECT, 0, 0, ALL_PWMS)];
+        records.extend(
+            (0..4)
+                .zip(writes)
+                .map(|(register, value)| write(register, value)),
+        );
+        for ticks in edges_of_waits(writes) {
+            records.push(Fields::ticks(ticks));
+            records.extend(look);
+        }
+        for bit in 15..32 {
+            let high = Fields::ticks(60_000 << (cs - 1));
+            records.extend([
+                write(2, 65_535),
+                high,
+                write(2, max),
+                Fields::ticks(1 << bit),
+            ]);
+            records.extend(look);
+        }
+        lent_well(log_of(&records), &mut rng)
+    }))
+}
+
+fn cmps(max: u64) -> impl Iterator<Item = u64> {
+    let cmps = [0, 1, max / 2, max, max + 1, 65_535].into_iter();
+    let cmps: BTreeSet<u64> = cmps.filter(|&cmp| cmp <= 65_535).collect();
+    cmps.into_iter()
+}
+
+fn edges_of_waits([cnfg, cs, max, cmp]: [u64; 4]) -> Vec<u64> {
+    let n = 1 << (cs - 1);
+    let round = if cnfg < 4 { 65_536 } else { max + 1 };
+    let rounds = [1, 2, 3, 1_000].map(|rounds| rounds * round);
+    let steps = rounds
+        .into_iter()
+        .chain([1, 2, cmp, round + cmp, 65_536, 65_537]);
+    let around = |steps: u64| [n * steps, n * steps + 1, (n * steps).saturating_sub(1)];
+    let longest = [TICKS_MAX, 1, TICKS_MAX, TICKS_MAX - 1, 1, TICKS_MAX];
+    let waits = steps.flat_map(around).chain(longest);
+    waits.filter(|&ticks| ticks <= TICKS_MAX).collect()
 }
 
 /// Every state, R/S and control code.

@@ -1,6 +1,7 @@
 //! Short scenes that a log is made of. Each leaves only records that are applied.
 
 use super::maker::{set_pair, settled, Functions, Maker, I2C_PINS, SPI_PINS};
+use super::wait;
 use crate::reference::bank::ENCODERS;
 use crate::reference::clock::divider;
 use crate::reference::encoder::{A, B, CERR, COVR, EN, MODE, RST};
@@ -268,15 +269,16 @@ fn pwm_run(maker: &mut Maker) {
 }
 
 fn wait_and_look(maker: &mut Maker, channel: u8) {
-    let cs = maker.bank.pwms[usize::from(channel)].cs;
-    let n = divider(cs.into()).unwrap_or(1);
-    let wait = match maker.rng.below(4) {
+    let pwm = &maker.bank.pwms[usize::from(channel)];
+    let n = divider(pwm.cs.into()).unwrap_or(1);
+    let ticks = match maker.rng.below(5) {
         0 => maker.rng.below(3),
         1 => (n * maker.rng.between(1, 3) + maker.rng.below(3)).saturating_sub(1),
         2 => maker.rng.below(20),
-        _ => maker.rng.between(0, maker.most_ticks),
+        3 => maker.rng.between(0, maker.most_ticks.min(300)),
+        _ => wait(pwm, maker.most_ticks, &mut maker.rng),
     };
-    maker.ticks(wait);
+    maker.ticks(ticks);
     maker.read(PWM, channel, PWM_CNTR);
     maker.read(PWM, channel, LEVEL);
 }
@@ -287,7 +289,8 @@ fn pwm_top_below_counter(maker: &mut Maker) {
     maker.write(PWM, channel, MAX, 65_535);
     maker.write(PWM, channel, CNFG, GENERATE | inverted);
     maker.write(PWM, channel, CS, 1);
-    maker.ticks(maker.most_ticks.min(40));
+    let ahead = maker.rng.pick(&[40, 40, 60_000]);
+    maker.ticks(ahead);
     let counter = u64::from(maker.bank.pwms[usize::from(channel)].counter);
     let max = maker.rng.below(counter + 1);
     maker.write(PWM, channel, MAX, max);

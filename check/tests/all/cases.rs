@@ -4,7 +4,7 @@ use rivandoze_check::cases::{Size, FAMILIES};
 use rivandoze_check::exchange::{Answer, Request, PLACES};
 use rivandoze_check::packed;
 use rivandoze_check::reference::log::{records, RECORDS_MAX};
-use rivandoze_check::reference::record::{Fields, Record};
+use rivandoze_check::reference::record::{Fields, Record, TICKS_MAX};
 use rivandoze_check::reference::Bank;
 use std::collections::BTreeSet;
 
@@ -84,24 +84,33 @@ fn outputs_are_enough_to_the_byte_or_one_byte_short() {
     }
 }
 
-/// The library takes the wait of a channel that runs tick by tick.
+/// As many bits as there are, with every divider, and the longest.
 #[test]
-fn no_log_takes_long() {
+fn waits_of_every_length_come_up() {
+    let (mut met, mut longest) = (BTreeSet::new(), 0);
     for request in short() {
         let mut bank = Bank::default();
-        let mut ticks = 0;
         for bytes in records(&request.log).into_iter().flatten() {
             let record = match Fields::from_bytes(bytes).decode() {
                 Ok(record) if bank.apply(record).is_ok() => record,
                 _ => break,
             };
             if let Record::Ticks(wait) = record {
-                let runs = |&channel: &usize| bank.pwms[channel].cs != 0;
-                ticks += wait * bank.select.routed_pwms().filter(runs).count() as u64;
+                let running = bank
+                    .select
+                    .routed_pwms()
+                    .map(|channel| bank.pwms[channel].cs);
+                met.extend(running.map(|cs| (cs, u64::BITS - wait.leading_zeros())));
+                longest = longest.max(wait);
             }
         }
-        assert!(ticks < 20_000_000, "{ticks}");
     }
+    for cs in 0..=7 {
+        for bits in 0..=32 {
+            assert!(met.contains(&(cs, bits)), "CS {cs}, {bits} bits");
+        }
+    }
+    assert_eq!(longest, TICKS_MAX);
 }
 
 #[test]

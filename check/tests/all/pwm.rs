@@ -1,6 +1,7 @@
 use crate::common::{readings, run_text};
 use rivandoze_check::generate::Rng;
 use rivandoze_check::reference::pwm::Pwm;
+use std::collections::BTreeSet;
 
 fn assert_both_ways_equal(start: &Pwm, ticks: u32) {
     let (mut at_once, mut one_by_one) = (start.clone(), start.clone());
@@ -71,6 +72,56 @@ fn at_once_equals_one_by_one_on_long_waits() {
         let ticks = rng.below(3_000_000) as u32;
         assert_both_ways_equal(&start, ticks);
     }
+}
+
+/// Every divider, MODE and INV with edges of MAX, CMP and the counter, up to 100,000 ticks and beyond a
+/// round of 16 bits: the slow way goes from one of the waits to the next.
+#[test]
+fn at_once_equals_one_by_one_at_the_edges() {
+    for start in starts_at_the_edges() {
+        let n = 1 << (start.cs - 1);
+        let round = u32::from(start.max) + 1;
+        let wholes = [1, 2, 3, 50].map(|rounds| n * rounds * round);
+        let others = [n, n * u32::from(start.cmp), 65_536, 100_000];
+        let around = |ticks: u32| [ticks.saturating_sub(1), ticks, ticks + 1];
+        let waits = wholes.into_iter().chain(others).flat_map(around);
+        let waits: BTreeSet<u32> = waits.filter(|&ticks| ticks <= 100_001).collect();
+        let (mut one_by_one, mut waited) = (start.clone(), 0);
+        for ticks in waits {
+            one_by_one.ticks_one_by_one(ticks - waited);
+            waited = ticks;
+            let mut at_once = start.clone();
+            at_once.ticks(ticks);
+            assert_eq!(at_once, one_by_one, "{ticks} ticks from {start:?}");
+        }
+    }
+}
+
+fn starts_at_the_edges() -> impl Iterator<Item = Pwm> {
+    let maxes = [0, 1, 2, 999, 65_534, 65_535u16];
+    let places = maxes.into_iter().flat_map(|max| {
+        let edges = [0, 1, max / 2, max, max.saturating_add(1), 65_535];
+        let edges: BTreeSet<u16> = edges.into_iter().collect();
+        let cmps = edges.clone().into_iter();
+        cmps.flat_map(move |cmp| edges.clone().into_iter().map(move |at| (max, cmp, at)))
+    });
+    places.flat_map(|(max, cmp, counter)| {
+        (1..=7u8).flat_map(move |cs| {
+            [0, 1, 4, 5].map(|cnfg| Pwm {
+                cnfg,
+                cs,
+                max,
+                cmp,
+                counter,
+                output: (counter ^ cmp) % 2 == 1,
+                remainder: if counter % 2 == 0 {
+                    0
+                } else {
+                    (1 << (cs - 1)) - 1
+                },
+            })
+        })
+    })
 }
 
 #[test]

@@ -5,6 +5,7 @@
 
 mod mistakes;
 mod replay;
+mod waits;
 
 use mistakes::{Mistake, MISTAKES};
 use rivandoze_check::exchange::{Answer, Request};
