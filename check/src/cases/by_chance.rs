@@ -2,16 +2,13 @@
 
 use super::{lent, lent_well, Requests, Size};
 use crate::generate::{change_bytes, damage, flip_bits, generate, Rng, Settings};
-use crate::reference::log::{build, records, Trailer, LOG_MAX, RECORDS_MAX, TRAILER_LEN};
-use crate::reference::record::{Fields, ENCODER, I2C, PWM, RECORD_LEN, SELECT, TICKS};
+use crate::reference::log::{build, Trailer, LOG_MAX, RECORDS_MAX, TRAILER_LEN};
+use crate::reference::record::{Fields, ENCODER, I2C, PWM, RECORD_LEN, SELECT, TICKS_MAX};
 
 /// The longest wait of most logs: short ones meet every edge of small MAX and CMP.
 const SHORT_WAIT: u64 = 300;
-/// The longest wait of some logs, beyond the highest counter. The library takes the wait of a channel
-/// that runs tick by tick.
+/// The longest wait of some logs, beyond the highest counter.
 const LONG_WAIT: u64 = 70_000;
-/// The longest wait of logs where only two channels run.
-const LONGEST_WAIT: u64 = 200_000;
 
 pub fn generated(mut rng: Rng, size: Size) -> Requests {
     Box::new((0..size.of(4_000, 200_000)).map(move |index| {
@@ -92,7 +89,7 @@ pub fn damaged(mut rng: Rng, size: Size) -> Requests {
                 log = damage(&log, &mut rng);
             }
         }
-        lent_well(with_short_waits(log), &mut rng)
+        lent_well(log, &mut rng)
     }))
 }
 
@@ -109,7 +106,7 @@ pub fn random_records(mut rng: Rng, size: Size) -> Requests {
         for _ in 0..count {
             records.push(random_record(wide, &mut rng).to_bytes());
         }
-        lent_well(with_short_waits(build(&[], &records)), &mut rng)
+        lent_well(build(&[], &records), &mut rng)
     }))
 }
 
@@ -146,11 +143,11 @@ pub fn random_bytes(mut rng: Rng, size: Size) -> Requests {
         if rng.chance(20) {
             let mut log = short_log(&mut rng);
             log.append(&mut bytes);
-            return lent_well(with_short_waits(log), &mut rng);
+            return lent_well(log, &mut rng);
         }
         let records = (0..len / RECORD_LEN).map(|_| random_bytes_of_record(&mut rng));
         let log = build(&bytes, &records.collect::<Vec<_>>());
-        lent_well(with_short_waits(log), &mut rng)
+        lent_well(log, &mut rng)
     }))
 }
 
@@ -181,9 +178,10 @@ pub fn random_selects(mut rng: Rng, size: Size) -> Requests {
     }))
 }
 
-/// Two PWM channels of any settings, with waits in which a counter comes round more than once.
+/// Two PWM channels of any settings, with waits in which a counter comes round more than once, some of
+/// them as long as a record can say.
 pub fn long_waits(mut rng: Rng, size: Size) -> Requests {
-    Box::new((0..size.of(20, 200)).map(move |_| {
+    Box::new((0..size.of(200, 10_000)).map(move |_| {
         let mut records = vec![Fields::write(SELECT, 0, 0, 0x55_5555_5555)];
         let first = rng.below(19) as u8;
         let channels = [first, first + 1];
@@ -195,7 +193,8 @@ pub fn long_waits(mut rng: Rng, size: Size) -> Requests {
             }
         }
         for _ in 0..6 {
-            records.push(Fields::ticks(rng.below(LONGEST_WAIT)));
+            let longest = rng.pick(&[LONG_WAIT, 3 * LONG_WAIT, TICKS_MAX]);
+            records.push(Fields::ticks(rng.between(0, longest)));
             for channel in channels {
                 records.push(Fields::read(PWM, channel, 4));
                 records.push(Fields::read(PWM, channel, 5));
@@ -229,18 +228,4 @@ fn without_lone_threes(value: u64, rng: &mut Rng) -> u64 {
         select ^= 1 << rng.below(40);
     }
     select
-}
-
-/// Damage may make any wait out of a short one, and the library may take a wait tick by tick. A wait
-/// above 32 bits is refused and costs nothing.
-fn with_short_waits(mut log: Vec<u8>) -> Vec<u8> {
-    let len = records(&log).map_or(0, |all| all.count() * RECORD_LEN);
-    let end = log.len().saturating_sub(TRAILER_LEN);
-    for record in log[end - len..end].chunks_exact_mut(RECORD_LEN) {
-        if record[0] == TICKS && record[12..] == [0; 4] {
-            record[9] &= 1;
-            record[10..12].fill(0);
-        }
-    }
-    log
 }

@@ -4,8 +4,6 @@ use rivandoze_check::cases::{Size, FAMILIES};
 use rivandoze_check::exchange::{Answer, Request, PLACES};
 use rivandoze_check::packed;
 use rivandoze_check::reference::log::{records, RECORDS_MAX};
-use rivandoze_check::reference::record::{Fields, Record};
-use rivandoze_check::reference::Bank;
 use std::collections::BTreeSet;
 
 fn short() -> impl Iterator<Item = Request> {
@@ -81,26 +79,6 @@ fn outputs_are_enough_to_the_byte_or_one_byte_short() {
     }
     for spare in -8..=17 {
         assert!(met.contains(&spare), "{spare}");
-    }
-}
-
-/// The library takes the wait of a channel that runs tick by tick.
-#[test]
-fn no_log_takes_long() {
-    for request in short() {
-        let mut bank = Bank::default();
-        let mut ticks = 0;
-        for bytes in records(&request.log).into_iter().flatten() {
-            let record = match Fields::from_bytes(bytes).decode() {
-                Ok(record) if bank.apply(record).is_ok() => record,
-                _ => break,
-            };
-            if let Record::Ticks(wait) = record {
-                let runs = |&channel: &usize| bank.pwms[channel].cs != 0;
-                ticks += wait * bank.select.routed_pwms().filter(runs).count() as u64;
-            }
-        }
-        assert!(ticks < 20_000_000, "{ticks}");
     }
 }
 
