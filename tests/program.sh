@@ -55,6 +55,8 @@ LOG
     says 'readings before a refused record are printed' $'0\n10\napplied 3 refused 7'
     printf 'write select 10\nwrite encoder 0 cnfg 1\npins encoder 0 0\npins encoder 0 2\nread encoder 0 cntr\n' | log_of
     says 'a count below 0 is printed as its bit pattern' $'4294967295\napplied 5 refused 0'
+    printf 'write select 1\nwrite pwm 0 cnfg 4\nwrite pwm 0 cs 1\nwrite pwm 0 max 998\nwrite pwm 0 cmp 3\nticks 4000000000\nread pwm 0 cntr\nread pwm 0 level\n' | log_of
+    says 'one record of 4,000,000,000 ticks' $'4\n0\napplied 8 refused 0'
     printf 'write select 0xFF5555557F\n' | log_of
     says 'a SELECT that is not allowed' 'applied 0 refused 10'
 }
