@@ -3,7 +3,7 @@ ghost use mathlib.Core.Path.{_≡_};
 ghost use Prim.Native.Nat.{_≤_};
 ghost use Rattle.divider.specs.Divider.{dividerOf};
 
-const DIVIDERS: [u64; 7] = [1, 2, 4, 8, 16, 32, 64];
+const DIVIDERS: [u8; 7] = [1, 2, 4, 8, 16, 32, 64];
 
 // What a choice divides the clock by; 0 for a choice that names no divider.
 pub fn divider(choice: u64) -> u64
@@ -16,5 +16,5 @@ pub fn divider(choice: u64) -> u64
         return 0;
     }
     let i = (choice - 1) as usize;
-    DIVIDERS[i]
+    DIVIDERS[i] as u64
 }

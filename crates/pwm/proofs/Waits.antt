@@ -2,11 +2,12 @@
 -- Assumes nothing.
 use mathlib.Core.Path.{_≡_, refl, sym, ap, _∙_}
 use Prim.Native.Nat.{ℕ, zero, suc, _+_, _-_, _*_, _/_, _%_, _^_, _≤_, _<_}
-use native.Mathlib.Nat.{zero-add, add-zero, add-comm, add-assoc, zero-mul, suc-mul, mod-lt, div-add-mod'}
+use native.Mathlib.Nat.{zero-add, add-zero, add-comm, add-assoc, zero-mul, suc-mul, mod-lt, div-le-self, div-add-mod'}
 use native.Mathlib.Numerals.{add-one}
 use native.Mathlib.Omega.{arith}
 use borrow.Author.Tests.{lt-ltb, le-ltb, ne-eqb}
 use Rattle.divider.specs.Divider.{dividerOf}
+use Rattle.divider.proofs.Powers.{power, chosen}
 use Rattle.pwm.specs.declared.Pwm.{Pwm}
 use Rattle.pwm.specs.Pwm.{stepped, withRemainder, ticked, ticksOf}
 use Rattle.pwm.specs.Waits.{often, dueOf}
@@ -82,6 +83,36 @@ module _ (p : Pwm) (n : ℕ) (divides : n ≡ dividerOf (p .cs)) (on : n ≡ 0 �
         rw (often-add ticked r (q * n + d) p, fulls q)
         (rw (zero-add r) at (more (stood q) n (still q) on r (omega arith)))
 
+-- the shift that divides m by N, with w for what it gives
+module _ (cs n : ℕ) (divides : n ≡ dividerOf cs) (on : n ≡ 0 → ⊥) where
+  one-of : (1 ≤ cs) × (cs ≤ 7)
+  one-of = chosen cs (λ e. on (divides ∙ e))
+
+  pub cs-some : 1 ≤ cs
+  cs-some = one-of .0
+
+  pub shift-short : cs - 1 < 64
+  shift-short = omega (arith, one-of)
+
+  module _ (m w : ℕ) (e : w ≡ m / 2 ^ (cs - 1)) where
+    pub whole : w ≡ m / n
+    whole = e ∙ ap (λ (z : ℕ). m / z) (sym (divides ∙ power cs (one-of .0) (one-of .1)))
+
+    pub whole-less : w ≤ m
+    whole-less = rw whole (div-le-self m n)
+
+    pub product-least : n * w ≤ m
+    product-least = rw whole (omega (arith, div-add-mod' m n))
+
+    pub product-fits : m < 2 ^ 64 → n * w < 2 ^ 64
+    product-fits h = omega (arith, product-least)
+
+    pub left : m - n * w ≡ m % n
+    left = rw whole (omega (arith, div-add-mod' m n))
+
+    pub left-fits : n ≤ 64 → m - n * w < 2 ^ 8
+    left-fits h = let p : 0 < n = omega arith in rw left (omega (arith, mod-lt m p))
+
 -- what the code makes of t ticks
 module _ (p : Pwm) (t n : ℕ) (divides : n ≡ dividerOf (p .cs)) where
   pub ticks-off : n ≡ 0 → p ≡ ticksOf t p
@@ -91,11 +122,10 @@ module _ (p : Pwm) (t n : ℕ) (divides : n ≡ dividerOf (p .cs)) where
     pub ticks-short : (r : Pwm) → t < d → r ≡ withRemainder (p .remainder + t) p → r ≡ ticksOf t p
     ticks-short r h f = f ∙ sym (ticks-often t p ∙ more p n divides on t (omega arith))
 
-    pub ticks-long : (q r : Pwm) → d ≤ t → q ≡ often stepped ((t - d) / n + 1) p → r ≡ withRemainder ((t - d) % n) q → r ≡ ticksOf t p
-    ticks-long q r h f g =
+    pub ticks-long : (w l : ℕ) (q r : Pwm) → d ≤ t → w ≡ (t - d) / n → l ≡ (t - d) % n → q ≡ often stepped (w + 1) p →
+        r ≡ withRemainder l q → r ≡ ticksOf t p
+    ticks-long w l q r h k i f g =
         let m = t - d in
         let sum : m % n + (m / n * n + d) ≡ t = omega (arith, div-add-mod' m n) in
-        rw (ticks-often t p, ← sum, g, f, add-one (m / n)) (sym (long p n divides on d e (m / n) (m % n) (mod-lt m (omega arith))))
-
-pub remainder-fits : (m n : ℕ) → (n ≡ 0 → ⊥) → n ≤ 64 → m % n < 2 ^ 8
-remainder-fits m n on h = let p : 0 < n = omega arith in omega (arith, mod-lt m p)
+        rw (ticks-often t p, ← sum, g, f, add-one w, i, k)
+        (sym (long p n divides on d e (m / n) (m % n) (mod-lt m (omega arith))))

@@ -2,7 +2,8 @@
 use bits::number;
 use divider::divider;
 ghost use mathlib.Core.Path.{_≡_};
-ghost use Prim.Native.Nat.{_-_};
+ghost use Prim.Native.Nat.{_-_, _/_, _%_, _≤_};
+ghost use Rattle.divider.specs.Divider.{dividerOf};
 ghost use Rattle.pwm.specs.Pwm.{configOf, cnfgOf, topOf, arrived, stepped, withRemainder, ticksOf, onCnfg, onCs, onMax, onCmp, levelOf, fresh};
 ghost use Rattle.pwm.specs.Waits.{often, dueOf, passed, climbed, wrapped};
 
@@ -19,6 +20,11 @@ pub struct Pwm {
     pub remainder: u8,
     pub counter: u16,
     pub output: bool,
+}
+
+struct Split {
+    steps: u64,
+    ticks: u8,
 }
 
 impl Config {
@@ -46,6 +52,18 @@ fn due(n: u64, remainder: u64) -> u64
         return 1;
     }
     n - remainder
+}
+
+// The whole steps in m ticks, and the ticks left. N is two to the CS less one, so that a shift divides.
+fn divided(m: u64, cs: u8, n: u64) -> Split
+    requires { ⌜ (n ≡ dividerOf cs) × (n ≡ 0 → ⊥) × (n ≤ 64) ⌝ }
+    ensures { λ r. ⌜ (r .steps ≡ m / n) × (r .steps ≤ m) × (r .ticks ≡ m % n) ⌝ }
+{
+    let steps = m >> (cs as u64 - 1);
+    Split {
+        steps: steps,
+        ticks: (m - n * steps) as u8,
+    }
 }
 
 // How many steps go up before one goes to 0.
@@ -154,8 +172,8 @@ impl Pwm {
         if t < due {
             return self.with_remainder((remainder + t) as u8);
         }
-        let rest = t - due;
-        self.steps(rest / n + 1).with_remainder((rest % n) as u8)
+        let rest = divided(t - due, self.cs, n);
+        self.steps(rest.steps + 1).with_remainder(rest.ticks)
     }
 
     pub fn write_cnfg(mut self, v: u8) -> Pwm

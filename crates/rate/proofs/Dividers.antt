@@ -5,11 +5,8 @@ use native.Mathlib.Nat.{le-antisymm, mul-le-mul-left}
 use native.Mathlib.Omega.{arith}
 use native.Mathlib.Decide.{decLe}
 use lib.Pow.{pow-pos, pow-mono, pow-lt, pow-add}
-use borrow.Author.Tests.{le-ltb}
 use Rattle.divider.specs.Divider.{dividerOf}
-
-power : (c : ℕ) → 1 ≤ c → c ≤ 7 → dividerOf c ≡ 2 ^ (c - 1)
-power c h l = rw (le-ltb c 1 h, le-ltb 7 c l)
+use Rattle.divider.proofs.Powers.{power}
 
 pub some : (c : ℕ) → 1 ≤ c → c ≤ 7 → 0 < dividerOf c
 some c h l = rw (power c h l) (pow-pos (c - 1))

@@ -34,5 +34,5 @@ divider-spec =
     (λ c. rw (lt-ltb _ _ (c .if1 .taken)) (search needs))
     (λ c. rw (le-ltb _ _ (c .before .if1 .left), lt-ltb _ _ (c .if2 .taken)) (search needs))
     (λ c. search needs)
-    (λ c. search needs)
+    (λ c. record { fits = omega (arith, rule (c .before .before .args .choice - 1) (omega arith)) })
     (λ c. rw (le-ltb _ _ (c .before .if1 .left), le-ltb _ _ (c .if2 .left)) (rule (c .before .before .args .choice - 1) (omega arith))))
