@@ -27,17 +27,17 @@ kernel64() {
 
 # The C library's debugging symbols are what valgrind finds the loader's functions by.
 unpack_parts() {
-    local all=$parts/all root=$parts/root package name
+    local all=$parts/all tree=$parts/tree package name
     rm -rf "$parts"
-    mkdir -p "$all" "$root/modules" "$root/usr/bin"
+    mkdir -p "$all" "$tree/modules" "$tree/usr/bin"
     for package in "$(kernel64)" libc6 libc6-dbg valgrind; do
         name=$(apt-get download --print-uris "$package:amd64" | cut -d' ' -f2)
         (cd /var/cache/apt/archives && apt-get download "$package:amd64") && dpkg -x "/var/cache/apt/archives/$name" "$all" || return
     done
-    find "$all/lib/modules" -name 'virtio*.ko' -exec cp -t "$root/modules" {} + &&
-        (cd "$all" && cp --parents -t ../root -r lib64 lib/x86_64-linux-gnu/{ld-linux-x86-64,libc,libm}.so.? usr/lib/debug \
+    find "$all/lib/modules" -name 'virtio*.ko' -exec cp -t "$tree/modules" {} + &&
+        (cd "$all" && cp --parents -t ../tree -r lib64 lib/x86_64-linux-gnu/{ld-linux-x86-64,libc,libm}.so.? usr/lib/debug \
             usr/libexec/valgrind/{default.supp,memcheck-amd64-linux,vgpreload_{core,memcheck}-amd64-linux.so}) &&
-        cp "$all/usr/bin/valgrind.bin" "$root/usr/bin/valgrind" &&
+        cp "$all/usr/bin/valgrind.bin" "$tree/usr/bin/valgrind" &&
         mv "$all"/boot/vmlinuz-* "$parts/kernel" && rm -r "$all"
 }
 
@@ -45,7 +45,7 @@ unpack_parts() {
 make_system64() {
     [ "$(uname -m)" = x86_64 ] && return
     system=(check/system64/boot "$parts/kernel" "$work/system")
-    cp -r "$parts/root" "$work/root" && cp --parents -t "$work/root" "$@" &&
-        $cc -std=c99 -O2 -Wall -Wextra -Werror -static -o "$work/root/init" check/system64/init.c &&
-        (cd "$work/root" && find . | cpio --quiet -o -H newc) >"$work/system"
+    cp -r "$parts/tree" "$work/tree" && cp --parents -t "$work/tree" "$@" &&
+        $cc -std=c99 -O2 -Wall -Wextra -Werror -static -o "$work/tree/init" check/system64/init.c &&
+        (cd "$work/tree" && find . | cpio --quiet -o -H newc) >"$work/system"
 }
