@@ -190,20 +190,20 @@ module _ (C k f : ℕ) (fit : Fit C k f) (a : Place) (h : Placed C k f a) where
           mul-le-mul-left k (mul-le-mul-right m (twice d (a .choice) (p .some) (omega arith) (h .most))) in
           few (omega (arith, mul-le-mul-left (k * dividerOf d) l))
 
+  finer : (w c x : ℕ) → Least N w c x → (d y : ℕ) → IsPair d y → n * w ≡ period d y → dividerOf c ≤ dividerOf d
+  finer w c x l d y p e = least-wins l d y p (eq-of-mul-eq-mul-left k (fit .base) (N * w) (dividerOf d * (y + 1)) (omega arith))
+
   -- so the nearer of the two counts is as good as each pair
   module _ (fast : 0 < C) (c x : ℕ) where
     pub fewer-best : short C (f * n) m * (m + 1) ≤ over C (f * n) m * m → Least N m c x → (d y : ℕ) → IsPair d y →
         AsGood C f (n * m) (dividerOf c) (period d y) (dividerOf d)
     fewer-best g l d y p =
         sides (AsGood C f (n * m) (dividerOf c) (period d y) (dividerOf d)) d y p
-        (λ s. longer fast s (omega (arith, under)) (λ e. least-wins l d y p (same e)))
+        (λ s. longer fast s (omega (arith, under)) (finer m c x l d y p))
         (λ s.
         trans (mul-pos ticks (some-count C (f * n) m fast g)) (mul-pos ticks (omega arith)) (pair-pos d y p)
         (fewer C f n m ticks under past (dividerOf c) g)
         (shorter s (omega (arith, past)) (λ e. omega arith)))
-      where
-        same : n * m ≡ period d y → N * m ≡ dividerOf d * (y + 1)
-        same e = eq-of-mul-eq-mul-left k (fit .base) (N * m) (dividerOf d * (y + 1)) (omega arith)
 
     pub more-best : over C (f * n) m * m < short C (f * n) m * (m + 1) → Least N (m + 1) c x → (d y : ℕ) → IsPair d y →
         AsGood C f (n * (m + 1)) (dividerOf c) (period d y) (dividerOf d)
@@ -213,7 +213,4 @@ module _ (C k f : ℕ) (fit : Fit C k f) (a : Place) (h : Placed C k f a) where
         trans (mul-pos ticks (omega arith)) (omega (arith, pair-pos d y p)) (pair-pos d y p)
         (one-more C f n m ticks under past (dividerOf c) g)
         (longer fast s (omega (arith, under)) (λ e. omega arith)))
-        (λ s. shorter s (omega (arith, past)) (λ e. least-wins l d y p (same e)))
-      where
-        same : n * (m + 1) ≡ period d y → N * (m + 1) ≡ dividerOf d * (y + 1)
-        same e = eq-of-mul-eq-mul-left k (fit .base) (N * (m + 1)) (dividerOf d * (y + 1)) (omega arith)
+        (λ s. shorter s (omega (arith, past)) (finer (m + 1) c x l d y p))
