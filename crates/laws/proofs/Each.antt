@@ -39,3 +39,8 @@ all-from f k (x ∷ l) = ap (λ t. f k x ∷ t) (all-from f (suc k) l)
 
 pub front-all : {X : Type 0} (f : ℕ → X → X) (l : List X) (i n : ℕ) → length l ≡ n → i ≤ n → n ≤ i → front f 0 i l ≡ mapFrom f 0 l
 front-all f l i n e h k = ap (λ (j : ℕ). front f 0 j l) (le-antisymm h k ∙ sym e) ∙ all-from f 0 l
+
+pub length-each : {X : Type 0} (f : ℕ → X → X) (k : ℕ) (l : List X) → length (mapFrom f k l) ≡ length l
+unfolding mapFrom
+length-each f k [] = refl
+length-each f k (x ∷ l) = ap suc (length-each f (suc k) l)
