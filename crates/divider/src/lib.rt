@@ -5,6 +5,12 @@ ghost use Rattle.divider.specs.Divider.{dividerOf};
 
 const DIVIDERS: [u8; 7] = [1, 2, 4, 8, 16, 32, 64];
 
+fn wide(x: u8) -> u64
+    ensures { λ r. ⌜ r ≡ x ⌝ }
+{
+    x as u64
+}
+
 // What a choice divides the clock by; 0 for a choice that names no divider.
 pub fn divider(choice: u64) -> u64
     ensures { λ r. ⌜ (r ≡ dividerOf choice) × (r ≤ 64) ⌝ }
@@ -16,5 +22,5 @@ pub fn divider(choice: u64) -> u64
         return 0;
     }
     let i = (choice - 1) as usize;
-    DIVIDERS[i] as u64
+    wide(DIVIDERS[i])
 }

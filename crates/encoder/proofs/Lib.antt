@@ -1,4 +1,6 @@
 pub mod Wrap
+pub mod Counting
 pub mod Proved
 mod Machine
+mod Stat
 mod Rules

@@ -2,45 +2,128 @@
 -- Assumes nothing.
 use mathlib.Core.Path.{_≡_, refl, sym, ap, _∙_}
 use mathlib.Core.Bool.{Bool, true, false, not, cond, _&&_, _||_}
-use Prim.Native.Nat.{ℕ, zero, suc, _%_}
-use lib.Dec.{eqb}
-use lib.IntN.{ℤ, pos}
+use Prim.Native.Nat.{ℕ, zero, suc, _+_, _*_, _/_, _%_, _<_}
+use native.Mathlib.Omega.{arith}
+use lib.Arith.{mod-mul}
+use lib.Dec.{lit<}
+use lib.IntN.{ℤ, pos, negsuc, _+ℤ_}
+use lib.Signed.{mag}
+use mir.Syntax.{w32}
+use mir.Val.{ofZ}
+use borrow.Author.Tests.{eq-eqb, ne-eqb, eqb-false}
 use Rattle.bits.specs.Bits.{bit, rises, changes}
 use Rattle.laws.proofs.Cases.{taken, left}
-use Rattle.encoder.specs.declared.Config.{Config}
-use Rattle.encoder.specs.declared.Flags.{Flags}
+use Rattle.laws.proofs.Truth.{neither}
 use Rattle.encoder.specs.declared.Encoder.{Encoder}
-use Rattle.encoder.specs.Encoder.{counted, quadrature, turned, clocked, stored, moved, onPins, configOf, cleared, onCnfg}
+use Rattle.encoder.specs.Count.{pattern, wrap}
+use Rattle.encoder.specs.Encoder.{en, rst, mode, cerr, covr, one, flagsOf, statOf, cleared, marked, erred, stored, kept, counted, places, quadrature, clocked, onPins, onCnfg, countsInQuadrature, registerOf}
+use Rattle.encoder.proofs.Counting.{first-kept, pins-quadrature}
+use Rattle.encoder.proofs.Machine.{held, held-is, bits-are}
 
-module _ (old new : ℕ) (e r : Encoder) where
-  pub clocked-yes : (eqb (old % 2) 0 && bit 0 new) ≡ true → r ≡ counted (bit 1 new) e → r ≡ clocked old new e
-  clocked-yes t h = taken _ _ _ r t h
+-- ---- a counted step, to the count n and the STAT s
 
-  pub clocked-no : (eqb (old % 2) 0 && bit 0 new) ≡ false → r ≡ e → r ≡ clocked old new e
-  clocked-no t h = left _ _ _ r t h
+module _ (v : ℕ) (e r : Encoder) (n : ℤ) (s : ℕ) (small : mag (e .count) < 2147483648) (small′ : mag n < 2147483648)
+    (made : r ≡ stored v (held n) s e) where
+  step : (back : Bool) → n ≡ wrap (held (e .count) +ℤ one back) → s ≡ statOf (marked back (pattern (e .count)) (flagsOf (e .stat))) → r ≡ counted back v e
+  step back next stat =
+      made ∙ ap (λ (m : ℤ). stored v m s e) (held-is n small′ ∙ next ∙ ap (λ (z : ℤ). wrap (z +ℤ one back)) (held-is (e .count) small))
+      ∙ ap (λ (t : ℕ). stored v (wrap (e .count +ℤ one back)) t e) stat
 
-  pub moved-clocked : e .config .mode ≡ true → r ≡ clocked old new e → r ≡ moved old new e
-  moved-clocked t h = taken _ _ _ r t h
+  -- at an end
+  pub step-at : (back : Bool) (b : ℕ) → ofZ w32 (e .count) ≡ b → n ≡ wrap (held (e .count) +ℤ one back) → s ≡ statOf (marked back b (flagsOf (e .stat)))
+      → r ≡ counted back v e
+  step-at back b end next stat =
+      step back next (stat ∙ ap (λ (i : ℕ). statOf (marked back i (flagsOf (e .stat)))) (sym end ∙ bits-are (e .count) small))
 
-  pub moved-turned : (k : ℕ) → e .config .mode ≡ false → k ≡ turned old new → r ≡ quadrature k e → r ≡ moved old new e
-  moved-turned k t q h = left _ _ _ r t (h ∙ ap (λ (n : ℕ). quadrature n e) q)
+  -- between the ends
+  pub step-up : (ofZ w32 (e .count) ≡ 4294967295 → ⊥) → (ofZ w32 (e .count) ≡ 2147483647 → ⊥) → n ≡ wrap (held (e .count) +ℤ pos 1)
+      → s ≡ statOf (marked false 0 (flagsOf (e .stat))) → r ≡ counted false v e
+  step-up not-unsigned not-signed next stat =
+      step false next
+      (rw (ne-eqb (pattern (e .count)) 4294967295 (λ h. not-unsigned (bits-are (e .count) small ∙ h)), ne-eqb (pattern (e .count)) 2147483647 (λ h. not-signed (bits-are (e .count) small ∙ h)))
+      stat)
+
+  pub step-down : n ≡ wrap (held (e .count) +ℤ negsuc 0) → s ≡ statOf (marked true 0 (flagsOf (e .stat))) → r ≡ counted true v e
+  step-down next stat = step true next stat
+
+-- ---- MODE 0
+
+module _ (t v : ℕ) (e r : Encoder) where
+  pub equal : t ≡ 0 → r ≡ kept v e → r ≡ quadrature t v e
+  equal z h = rw z h
+
+  pub forward : t ≡ 1 → r ≡ counted false v e → r ≡ quadrature t v e
+  forward z h = rw z h
+
+  pub failed : (s : ℕ) → t ≡ 2 → mag (e .count) < 2147483648 → s ≡ statOf (erred (flagsOf (e .stat))) → r ≡ stored v (held (e .count)) s e → r ≡ quadrature t v e
+  failed s z small stat h =
+      rw z
+      (h ∙ ap (λ (n : ℤ). stored v n s e) (held-is (e .count) small) ∙ ap (λ (i : ℕ). stored v (e .count) i e) stat)
 
 -- what is none of 0, 1 and 2 places forward is one back
-pub back : (t : ℕ) (e r : Encoder) → (t ≡ 0 → ⊥) → (t ≡ 1 → ⊥) → (t ≡ 2 → ⊥) → r ≡ counted true e → r ≡ quadrature t e
-back zero e r h₀ h₁ h₂ q = absurd (h₀ refl)
-back (suc zero) e r h₀ h₁ h₂ q = absurd (h₁ refl)
-back (suc (suc zero)) e r h₀ h₁ h₂ q = absurd (h₂ refl)
-back (suc (suc (suc t))) e r h₀ h₁ h₂ q = q
+pub back : (t v : ℕ) (e r : Encoder) → (t ≡ 0 → ⊥) → (t ≡ 1 → ⊥) → (t ≡ 2 → ⊥) → r ≡ counted true v e → r ≡ quadrature t v e
+back zero v e r h₀ h₁ h₂ q = absurd (h₀ refl)
+back (suc zero) v e r h₀ h₁ h₂ q = absurd (h₁ refl)
+back (suc (suc zero)) v e r h₀ h₁ h₂ q = absurd (h₂ refl)
+back (suc (suc (suc t))) v e r h₀ h₁ h₂ q = q
+
+-- ---- MODE 1
 
 module _ (v : ℕ) (e r : Encoder) where
-  pub pins-live : (s : Encoder) → e .config .en ≡ true → (e .seen && not (e .config .rst)) ≡ true → s ≡ stored v e → r ≡ moved (e .pins) v s → r ≡ onPins v e
-  pins-live s t u q h = taken _ _ _ r t (taken _ _ _ r u (h ∙ ap (moved (e .pins) v) q))
+  pub clocked-down : rises (bit 0 (e .pins)) (bit 0 v) ≡ true → v / 2 % 2 ≡ 1 → r ≡ counted true v e → r ≡ clocked v e
+  clocked-down t b h = taken _ _ _ r t (h ∙ ap (λ (x : Bool). counted x v e) (sym (eq-eqb _ _ b)))
 
-  pub pins-still : e .config .en ≡ true → (e .seen && not (e .config .rst)) ≡ false → r ≡ stored v e → r ≡ onPins v e
-  pins-still t u h = taken _ _ _ r t (left _ _ _ r u h)
+  pub clocked-up : rises (bit 0 (e .pins)) (bit 0 v) ≡ true → (v / 2 % 2 ≡ 1 → ⊥) → r ≡ counted false v e → r ≡ clocked v e
+  clocked-up t b h = taken _ _ _ r t (h ∙ ap (λ (x : Bool). counted x v e) (sym (ne-eqb _ _ b)))
 
--- the new configuration k, the flags f and the count n, as they are made
-pub configured : (v : ℕ) (e : Encoder) (k : Config) (f : Flags) (n : ℤ) → k ≡ configOf v
-    → f ≡ cleared (rises (e .config .cerr) (k .cerr)) (rises (e .config .covr) (k .covr)) (e .flags) → n ≡ cond (k .rst) (pos 0) (e .count)
-    → _≡_ {A = Encoder} (record { config = k; flags = f; seen = e .seen && not (changes (e .config .en) (k .en) || changes (e .config .mode) (k .mode)); pins = e .pins; count = n }) (onCnfg v e)
-configured v e k f n p q r = cc
+  pub clocked-no : rises (bit 0 (e .pins)) (bit 0 v) ≡ false → r ≡ kept v e → r ≡ clocked v e
+  clocked-no t h = left _ _ _ r t h
+
+-- ---- pins
+
+enabled : (n : ℕ) → (n % 2 ≡ 0 → ⊥) → en n ≡ true
+enabled n h = eq-eqb (n % 2) 1 (omega arith)
+
+-- EN 1, RST 0 and MODE 0
+alone : (e : Encoder) → e .cnfg % 8 ≡ 1 → countsInQuadrature true e ≡ true
+alone e h =
+    let n = e .cnfg in
+    rw (eq-eqb (n % 2) 1 (omega arith), ne-eqb (n / 2 % 2) 1 (λ b. omega arith), ne-eqb (n / 4 % 2) 1 (λ b. omega arith))
+
+-- and what is left of EN 1 and RST 0
+other : (n : ℕ) → (n % 8 ≡ 1 → ⊥) → (n % 2 ≡ 0 → ⊥) → rst n ≡ false → mode n ≡ true
+other n h k f =
+    let four : n % 4 ≡ n / 2 % 2 * 2 + n % 2 = mod-mul n (lit< tt) (lit< tt) in
+    let eight : n % 8 ≡ n / 4 % 2 * 4 + n % 4 = mod-mul n (lit< tt) (lit< tt) in
+    eq-eqb (n / 4 % 2) 1 (omega (arith, eqb-false (n / 2 % 2) 1 f))
+
+module _ (v : ℕ) (e r : Encoder) where
+  pub pins-seen : (t : ℕ) → e .cnfg % 8 ≡ 1 → e .seen ≡ true → t ≡ places (e .pins) v → r ≡ quadrature t v e → r ≡ onPins v e
+  pins-seen t h s p q = q ∙ ap (λ (i : ℕ). quadrature i v e) p ∙ sym (pins-quadrature true e (alone e h) v s)
+
+  pub pins-first : e .cnfg % 8 ≡ 1 → e .seen ≡ false → r ≡ kept v e → r ≡ onPins v e
+  pins-first h s q = q ∙ sym (first-kept true e (alone e h) v s)
+
+  pub pins-off : e .cnfg % 2 ≡ 0 → r ≡ e → r ≡ onPins v e
+  pins-off h q = taken _ _ _ r (ap not (ne-eqb (e .cnfg % 2) 1 (λ k. omega arith))) q
+
+  pub pins-kept : (e .cnfg % 2 ≡ 0 → ⊥) → (not (e .seen) || rst (e .cnfg)) ≡ true → r ≡ kept v e → r ≡ onPins v e
+  pins-kept h t q = left _ _ _ r (ap not (enabled (e .cnfg) h)) (taken _ _ _ r t q)
+
+  pub pins-clocked : (e .cnfg % 8 ≡ 1 → ⊥) → (e .cnfg % 2 ≡ 0 → ⊥) → (not (e .seen) || rst (e .cnfg)) ≡ false → r ≡ clocked v e → r ≡ onPins v e
+  pins-clocked h k f q =
+      left _ _ _ r (ap not (enabled (e .cnfg) k)) (left _ _ _ r f (taken _ _ _ r (other (e .cnfg) h k (neither (not (e .seen)) _ f .1)) q))
+
+-- ---- a write to CNFG, to the count n and the STAT s
+
+pub configured : (v : ℕ) (e : Encoder) (n : ℤ) (s : ℕ) → mag (e .count) < 2147483648 → mag n < 2147483648 → n ≡ cond (rst v) (pos 0) (held (e .count))
+    → s ≡ statOf (cleared (rises (cerr (e .cnfg)) (cerr v)) (rises (covr (e .cnfg)) (covr v)) (flagsOf (e .stat)))
+    → _≡_ {A = Encoder} (record { count = held n; cnfg = v; stat = s; pins = e .pins; seen = e .seen && not (changes (en (e .cnfg)) (en v) || changes (mode (e .cnfg)) (mode v)) }) (onCnfg v e)
+configured v e n s small small′ count stat = cc (held-is (e .count) small, held-is n small′)
+
+-- ---- a read of CNTR
+
+pub read-cntr : (register : ℕ) (e : Encoder) (r : ℕ) → (register ≡ 0 → ⊥) → (register ≡ 1 → ⊥) → mag (e .count) < 2147483648 → r ≡ pattern (held (e .count))
+    → r ≡ registerOf register e
+read-cntr register e r h k small q =
+    left _ _ _ r (ne-eqb register 0 h) (left _ _ _ r (ne-eqb register 1 k) (q ∙ ap pattern (held-is (e .count) small)))

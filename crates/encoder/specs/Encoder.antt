@@ -6,46 +6,76 @@ use lib.Dec.{eqb}
 use lib.IntN.{ℤ, pos, negsuc, _+ℤ_}
 use Rattle.bits.specs.Bits.{bit, num, rises, changes}
 use Rattle.encoder.specs.Count.{pattern, wrap}
-use Rattle.encoder.specs.declared.Config.{Config}
-use Rattle.encoder.specs.declared.Flags.{Flags}
 use Rattle.encoder.specs.declared.Encoder.{Encoder}
 
--- ---- CNFG
+-- ---- CNFG: "bit 0 EN, 1 RST, 2 MODE, 3 CERR, 4 COVR"
 
--- "bit 0 EN, 1 RST, 2 MODE, 3 CERR, 4 COVR"
-abbrev pub configOf : ℕ → Config
-configOf v = record { en = bit 0 v; rst = bit 1 v; mode = bit 2 v; cerr = bit 3 v; covr = bit 4 v }
+abbrev pub en : ℕ → Bool
+en cnfg = bit 0 cnfg
+
+abbrev pub rst : ℕ → Bool
+rst cnfg = bit 1 cnfg
+
+abbrev pub mode : ℕ → Bool
+mode cnfg = bit 2 cnfg
+
+abbrev pub cerr : ℕ → Bool
+cerr cnfg = bit 3 cnfg
+
+abbrev pub covr : ℕ → Bool
+covr cnfg = bit 4 cnfg
+
+-- ---- STAT: "0 DIR .., 1 ERR, 2 UOVR .., 3 SOVR .., 4 UOERR, 5 SOERR"
+
+pub record Overflow : Type 0 where
+  pub uovr : Bool
+  pub sovr : Bool
+  pub uoerr : Bool
+  pub soerr : Bool
+
+pub record Flags : Type 0 where
+  pub dir : Bool
+  pub err : Bool
+  pub overflow : Overflow
+
+unfoldable pub flagsOf : ℕ → Flags
+flagsOf v = record { dir = bit 0 v; err = bit 1 v; overflow = record { uovr = bit 2 v; sovr = bit 3 v; uoerr = bit 4 v; soerr = bit 5 v } }
+
+unfoldable pub statOf : Flags → ℕ
+statOf f =
+    num (f .dir) + 2 * num (f .err) + 4 * num (f .overflow .uovr) + 8 * num (f .overflow .sovr)
+    + 16 * num (f .overflow .uoerr) + 32 * num (f .overflow .soerr)
+
+-- ---- a write to CNFG
+
+abbrev pub none : Overflow
+none = record { uovr = false; sovr = false; uoerr = false; soerr = false }
 
 -- "A CERR bit going 0 to 1 clears ERR; COVR going 0 to 1 clears the four overflow flags"
 abbrev pub cleared : Bool → Bool → Flags → Flags
-cleared error overflow f = record {
-  dir = f .dir;
-  err = f .err && not error;
-  uovr = f .uovr && not overflow;
-  sovr = f .sovr && not overflow;
-  uoerr = f .uoerr && not overflow;
-  soerr = f .soerr && not overflow;
-}
+cleared error overflow f = record { dir = f .dir; err = f .err && not error; overflow = cond overflow none (f .overflow) }
 
--- a write to CNFG. "RST 1 sets the count to 0 .., and touches no flag. A change of EN or MODE .. makes the pins unseen"
+-- "RST 1 sets the count to 0 .., and touches no flag. A change of EN or MODE .. makes the pins unseen"
 abbrev pub onCnfg : ℕ → Encoder → Encoder
 onCnfg v e = record {
-  config = configOf v;
-  flags = cleared (rises (e .config .cerr) (configOf v .cerr)) (rises (e .config .covr) (configOf v .covr)) (e .flags);
-  seen = e .seen && not (changes (e .config .en) (configOf v .en) || changes (e .config .mode) (configOf v .mode));
+  count = cond (rst v) (pos 0) (e .count);
+  cnfg = v;
+  stat = statOf (cleared (rises (cerr (e .cnfg)) (cerr v)) (rises (covr (e .cnfg)) (covr v)) (flagsOf (e .stat)));
   pins = e .pins;
-  count = cond (configOf v .rst) (pos 0) (e .count);
+  seen = e .seen && not (changes (en (e .cnfg)) (en v) || changes (mode (e .cnfg)) (mode v));
 }
 
 -- a write to SELECT, with whether the encoder was routed before it and is now: "being newly routed, makes the pins unseen"
 abbrev pub onSelect : Bool → Bool → Encoder → Encoder
-onSelect was now e = record {
-  config = e .config;
-  flags = e .flags;
-  seen = e .seen && not (rises was now);
-  pins = e .pins;
-  count = e .count;
-}
+onSelect was now e = record { count = e .count; cnfg = e .cnfg; stat = e .stat; pins = e .pins; seen = e .seen && not (rises was now) }
+
+-- ---- pins that are stored, with the count and STAT that they leave
+
+abbrev pub stored : ℕ → ℤ → ℕ → Encoder → Encoder
+stored v count stat e = record { count = count; cnfg = e .cnfg; stat = stat; pins = v; seen = true }
+
+abbrev pub kept : ℕ → Encoder → Encoder
+kept v e = stored v (e .count) (e .stat) e
 
 -- ---- one counted step, forward (false) or back (true)
 
@@ -64,27 +94,17 @@ abbrev pub passesSigned : Bool → ℕ → Bool
 passesSigned false b = eqb b 2147483647
 passesSigned true b = false
 
--- "DIR (1 if the last counted step was backward)"; UOVR and SOVR at an end that is passed; "UOERR, SOERR (the same again with the
--- first flag still set)"
-abbrev pub marked : Bool → Bool → Bool → Flags → Flags
-marked back u s f = record {
-  dir = back;
-  err = f .err;
-  uovr = f .uovr || u;
-  sovr = f .sovr || s;
-  uoerr = f .uoerr || (f .uovr && u);
-  soerr = f .soerr || (f .sovr && s);
-}
+-- UOVR and SOVR at an end that is passed; "UOERR, SOERR (the same again with the first flag still set)"
+abbrev pub passed : Bool → Bool → Overflow → Overflow
+passed u s o = record { uovr = o .uovr || u; sovr = o .sovr || s; uoerr = o .uoerr || (o .uovr && u); soerr = o .soerr || (o .sovr && s) }
+
+-- "DIR (1 if the last counted step was backward)"
+abbrev pub marked : Bool → ℕ → Flags → Flags
+marked back b f = record { dir = back; err = f .err; overflow = passed (passesUnsigned back b) (passesSigned back b) (f .overflow) }
 
 -- "The count is a 32-bit signed number that wraps on purpose"
-abbrev pub counted : Bool → Encoder → Encoder
-counted back e = record {
-  config = e .config;
-  flags = marked back (passesUnsigned back (pattern (e .count))) (passesSigned back (pattern (e .count))) (e .flags);
-  seen = e .seen;
-  pins = e .pins;
-  count = wrap (e .count +ℤ one back);
-}
+abbrev pub counted : Bool → ℕ → Encoder → Encoder
+counted back v e = stored v (wrap (e .count +ℤ one back)) (statOf (marked back (pattern (e .count)) (flagsOf (e .stat)))) e
 
 -- ---- MODE 0
 
@@ -99,80 +119,47 @@ abbrev pub place : ℕ → ℕ
 place pins = placeOf (bit 0 pins) (bit 1 pins)
 
 -- how many places forward the new pins are from the old, of four
-abbrev pub turned : ℕ → ℕ → ℕ
-turned old new = (4 + place new - place old) % 4
+abbrev pub places : ℕ → ℕ → ℕ
+places old new = (4 + place new - place old) % 4
 
 -- "both pins changed sets ERR and counts nothing"
-abbrev pub failed : Encoder → Encoder
-failed e = record {
-  config = e .config;
-  flags = record {
-    dir = e .flags .dir;
-    err = true;
-    uovr = e .flags .uovr;
-    sovr = e .flags .sovr;
-    uoerr = e .flags .uoerr;
-    soerr = e .flags .soerr;
-  };
-  seen = e .seen;
-  pins = e .pins;
-  count = e .count;
-}
+abbrev pub erred : Flags → Flags
+erred f = record { dir = f .dir; err = true; overflow = f .overflow }
 
 -- "One place forward is +1, one back is -1, equal is nothing, both pins changed sets ERR": three places forward are one back, and
 -- two are both pins changed
-abbrev pub quadrature : ℕ → Encoder → Encoder
-quadrature zero e = e
-quadrature (suc zero) e = counted false e
-quadrature (suc (suc zero)) e = failed e
-quadrature (suc (suc (suc n))) e = counted true e
+abbrev pub quadrature : ℕ → ℕ → Encoder → Encoder
+quadrature zero v e = kept v e
+quadrature (suc zero) v e = counted false v e
+quadrature (suc (suc zero)) v e = stored v (e .count) (statOf (erred (flagsOf (e .stat)))) e
+quadrature (suc (suc (suc n))) v e = counted true v e
 
 -- ---- MODE 1: "A going 0 to 1 counts +1 if the new B is 0, else -1; ERR is not set"
 
-abbrev pub clocked : ℕ → ℕ → Encoder → Encoder
-clocked old new e = cond (eqb (old % 2) 0 && bit 0 new) (counted (bit 1 new) e) e
+abbrev pub clocked : ℕ → Encoder → Encoder
+clocked v e = cond (rises (bit 0 (e .pins)) (bit 0 v)) (counted (bit 1 v) v e) (kept v e)
 
 -- ---- pins: "Pins with EN 0 change nothing. Otherwise they are stored; if they were unseen, or RST is 1, that is all"
 
-abbrev pub stored : ℕ → Encoder → Encoder
-stored v e = record { config = e .config; flags = e .flags; seen = true; pins = v; count = e .count }
-
-abbrev pub moved : ℕ → ℕ → Encoder → Encoder
-moved old new e = cond (e .config .mode) (clocked old new e) (quadrature (turned old new) e)
-
 abbrev pub onPins : ℕ → Encoder → Encoder
 onPins v e =
-    cond (e .config .en)
-    (cond (e .seen && not (e .config .rst)) (moved (e .pins) v (stored v e)) (stored v e))
-    e
+    cond (not (en (e .cnfg))) e
+    (cond (not (e .seen) || rst (e .cnfg)) (kept v e)
+    (cond (mode (e .cnfg)) (clocked v e) (quadrature (places (e .pins) v) v e)))
 
 -- "An encoder counts in quadrature while it is routed with EN 1, RST 0 and MODE 0"
 abbrev pub countsInQuadrature : Bool → Encoder → Bool
-countsInQuadrature routed e = routed && (e .config .en && (not (e .config .rst) && not (e .config .mode)))
+countsInQuadrature routed e = routed && (en (e .cnfg) && (not (rst (e .cnfg)) && not (mode (e .cnfg))))
 
--- ---- what is read
-
-abbrev pub cnfgOf : Encoder → ℕ
-cnfgOf e =
-    num (e .config .en) + 2 * num (e .config .rst) + 4 * num (e .config .mode) + 8 * num (e .config .cerr)
-    + 16 * num (e .config .covr)
-
--- "STAT ..: 0 DIR, 1 ERR, 2 UOVR, 3 SOVR, 4 UOERR, 5 SOERR"
-abbrev pub statOf : Encoder → ℕ
-statOf e =
-    num (e .flags .dir) + 2 * num (e .flags .err) + 4 * num (e .flags .uovr) + 8 * num (e .flags .sovr)
-    + 16 * num (e .flags .uoerr) + 32 * num (e .flags .soerr)
+-- ---- what is read: "0 CNFG, 1 STAT, 2 CNTR"
 
 -- "CNTR reads its bit pattern"
 abbrev pub cntrOf : Encoder → ℕ
 cntrOf e = pattern (e .count)
 
+abbrev pub registerOf : ℕ → Encoder → ℕ
+registerOf register e = cond (eqb register 0) (e .cnfg) (cond (eqb register 1) (e .stat) (cntrOf e))
+
 -- "Fresh state: all registers 0, .. no pins seen"
 abbrev pub fresh : Encoder
-fresh = record {
-  config = configOf 0;
-  flags = record { dir = false; err = false; uovr = false; sovr = false; uoerr = false; soerr = false };
-  seen = false;
-  pins = 0;
-  count = pos 0;
-}
+fresh = record { count = pos 0; cnfg = 0; stat = 0; pins = 0; seen = false }

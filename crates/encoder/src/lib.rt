@@ -1,66 +1,30 @@
-// One encoder: its configuration, its flags, the pins last seen and the count.
-use bits::number;
+// One encoder: its count, the registers CNFG and STAT as numbers, and the pins last seen.
 ghost use mathlib.Core.Path.{_≡_};
-ghost use mathlib.Core.Bool.{cond};
+ghost use mathlib.Core.Bool.{Bool, cond};
 ghost use lib.IntN.{pos, _+ℤ_};
-ghost use Rattle.encoder.specs.Count.{wrap, pattern};
-ghost use Rattle.encoder.specs.Encoder.{configOf, cnfgOf, cleared, one, passesUnsigned, passesSigned, marked, counted, failed, turned, quadrature, clocked, stored, moved, onCnfg, onSelect, onPins, statOf, cntrOf, fresh};
-
-pub struct Config {
-    pub en: bool,
-    pub rst: bool,
-    pub mode: bool,
-    pub cerr: bool,
-    pub covr: bool,
-}
-
-pub struct Flags {
-    pub dir: bool,
-    pub err: bool,
-    pub uovr: bool,
-    pub sovr: bool,
-    pub uoerr: bool,
-    pub soerr: bool,
-}
+ghost use Rattle.encoder.specs.Count.{wrap, pattern, signed};
+ghost use Rattle.encoder.specs.Encoder.{one, places, flagsOf, statOf, cleared, marked, erred, stored, kept, counted, quadrature, clocked, onCnfg, onSelect, onPins, registerOf, fresh};
 
 pub struct Encoder {
-    pub config: Config,
-    pub flags: Flags,
-    pub seen: bool,
-    pub pins: u8,
     pub count: i32,
+    pub cnfg: u32,
+    pub stat: u32,
+    pub pins: u8,
+    pub seen: bool,
 }
 
 // How many places on the pins are, at old * 4 + new: 1 is one place forward, 3 one back, 2 is both pins changed.
-const TURNS: [u8; 16] = [0, 1, 3, 2, 3, 0, 2, 1, 1, 2, 0, 3, 2, 3, 1, 0];
+const PLACES: [u8; 16] = [0, 1, 3, 2, 3, 0, 2, 1, 1, 2, 0, 3, 2, 3, 1, 0];
 
-fn turn(old: u8, new: u8) -> u8
-    ensures { λ r. ⌜ r ≡ turned old new ⌝ }
+fn places(old: u8, new: u8) -> u8
+    ensures { λ r. ⌜ r ≡ places old new ⌝ }
 {
     let i = ((old % 4) as usize) * 4 + ((new % 4) as usize);
-    TURNS[i]
+    PLACES[i]
 }
 
-// The wrapping add of one counted step: each end is tested, since a signed sum may not overflow.
-fn wrapping_step(at: i32, back: bool) -> i32
-    ensures { λ r. ⌜ r ≡ wrap (at +ℤ one back) ⌝ }
-{
-    if back {
-        if at == -2147483648 {
-            2147483647
-        } else {
-            at - 1
-        }
-    } else {
-        if at == 2147483647 {
-            -2147483648
-        } else {
-            at + 1
-        }
-    }
-}
+// ---- the count
 
-// The count's bit pattern.
 fn bit_pattern(at: i32) -> u32
     ensures { λ r. ⌜ r ≡ pattern at ⌝ }
 {
@@ -71,67 +35,89 @@ fn bit_pattern(at: i32) -> u32
     }
 }
 
-fn passes_unsigned(back: bool, b: u32) -> bool
-    ensures { λ r. ⌜ r ≡ passesUnsigned back b ⌝ }
+// The count that a bit pattern stands for.
+fn count_of(b: u32) -> i32
+    ensures { λ r. ⌜ r ≡ signed b ⌝ }
 {
-    if back { false } else { b == 4294967295 }
+    if b < 2147483648 {
+        b as i32
+    } else {
+        -1 - ((4294967295 - b) as i32)
+    }
 }
 
-fn passes_signed(back: bool, b: u32) -> bool
-    ensures { λ r. ⌜ r ≡ passesSigned back b ⌝ }
+fn wrapping_up(at: i32) -> i32
+    ensures { λ r. ⌜ r ≡ wrap (at +ℤ one Bool.false) ⌝ }
 {
-    if back { false } else { b == 2147483647 }
+    count_of(std::num::wrapping_add_u32(bit_pattern(at), 1))
+}
+
+fn wrapping_down(at: i32) -> i32
+    ensures { λ r. ⌜ r ≡ wrap (at +ℤ one Bool.true) ⌝ }
+{
+    count_of(std::num::wrapping_sub_u32(bit_pattern(at), 1))
 }
 
 // RST 1 sets the count to 0.
-fn kept(rst: bool, at: i32) -> i32
+fn kept_count(rst: bool, at: i32) -> i32
     ensures { λ r. ⌜ r ≡ cond rst (pos 0) at ⌝ }
 {
     if rst { 0 } else { at }
 }
 
-impl Config {
-    fn of(v: u8) -> Config
-        ensures { λ r. ⌜ r ≡ configOf v ⌝ }
-    {
-        Config {
-            en: v % 2 == 1,
-            rst: v / 2 % 2 == 1,
-            mode: v / 4 % 2 == 1,
-            cerr: v / 8 % 2 == 1,
-            covr: v / 16 % 2 == 1,
-        }
-    }
+// ---- STAT as a number: each rule is a few operations on its six bits
+
+fn marked_up(stat: u32) -> u32
+    ensures { λ r. ⌜ r ≡ statOf (marked Bool.false 0 (flagsOf stat)) ⌝ }
+{
+    let s = stat % 64;
+    s / 2 * 2
 }
 
-impl Flags {
-    // One counted step: its direction, and which ends it passes.
-    fn mark(self, back: bool, u: bool, s: bool) -> Flags
-        ensures { λ r. ⌜ r ≡ marked back u s self ⌝ }
-    {
-        Flags {
-            dir: back,
-            err: self.err,
-            uovr: self.uovr | u,
-            sovr: self.sovr | s,
-            uoerr: self.uoerr | (self.uovr & u),
-            soerr: self.soerr | (self.sovr & s),
-        }
-    }
+// UOVR, and UOERR where UOVR is set already.
+fn marked_past_unsigned(stat: u32) -> u32
+    ensures { λ r. ⌜ r ≡ statOf (marked Bool.false 4294967295 (flagsOf stat)) ⌝ }
+{
+    let s = stat % 64;
+    s / 2 * 2 | 4 | (s / 4 % 2 * 16)
+}
 
-    // CERR rose, COVR rose.
-    fn clear(self, error: bool, overflow: bool) -> Flags
-        ensures { λ r. ⌜ r ≡ cleared error overflow self ⌝ }
-    {
-        Flags {
-            dir: self.dir,
-            err: self.err & !error,
-            uovr: self.uovr & !overflow,
-            sovr: self.sovr & !overflow,
-            uoerr: self.uoerr & !overflow,
-            soerr: self.soerr & !overflow,
+// SOVR, and SOERR where SOVR is set already.
+fn marked_past_signed(stat: u32) -> u32
+    ensures { λ r. ⌜ r ≡ statOf (marked Bool.false 2147483647 (flagsOf stat)) ⌝ }
+{
+    let s = stat % 64;
+    s / 2 * 2 | 8 | (s / 8 % 2 * 32)
+}
+
+fn marked_down(stat: u32) -> u32
+    ensures { λ r. ⌜ r ≡ statOf (marked Bool.true 0 (flagsOf stat)) ⌝ }
+{
+    let s = stat % 64;
+    s | 1
+}
+
+fn erred(stat: u32) -> u32
+    ensures { λ r. ⌜ r ≡ statOf (erred (flagsOf stat)) ⌝ }
+{
+    let s = stat % 64;
+    s | 2
+}
+
+fn cleared(error: bool, overflow: bool, stat: u32) -> u32
+    ensures { λ r. ⌜ r ≡ statOf (cleared error overflow (flagsOf stat)) ⌝ }
+{
+    let s = stat % 64;
+    if error {
+        if overflow {
+            return s % 2;
         }
+        return s & 61;
     }
+    if overflow {
+        return s % 4;
+    }
+    s
 }
 
 impl Encoder {
@@ -139,154 +125,151 @@ impl Encoder {
         ensures { λ r. ⌜ r ≡ fresh ⌝ }
     {
         Encoder {
-            config: Config {
-                en: false,
-                rst: false,
-                mode: false,
-                cerr: false,
-                covr: false,
-            },
-            flags: Flags {
-                dir: false,
-                err: false,
-                uovr: false,
-                sovr: false,
-                uoerr: false,
-                soerr: false,
-            },
-            seen: false,
-            pins: 0,
             count: 0,
+            cnfg: 0,
+            stat: 0,
+            pins: 0,
+            seen: false,
         }
     }
 
-    fn counted(mut self, back: bool) -> Encoder
-        ensures { λ r. ⌜ r ≡ counted back self ⌝ }
+    // Pins that are stored, with the count and STAT that they leave.
+    fn stored(self, v: u8, count: i32, stat: u32) -> Encoder
+        ensures { λ r. ⌜ r ≡ stored v count stat self ⌝ }
+    {
+        Encoder {
+            count: count,
+            cnfg: self.cnfg,
+            stat: stat,
+            pins: v,
+            seen: true,
+        }
+    }
+
+    fn kept(self, v: u8) -> Encoder
+        ensures { λ r. ⌜ r ≡ kept v self ⌝ }
+    {
+        Encoder {
+            count: self.count,
+            cnfg: self.cnfg,
+            stat: self.stat,
+            pins: v,
+            seen: true,
+        }
+    }
+
+    fn counted_up(self, v: u8) -> Encoder
+        ensures { λ r. ⌜ r ≡ counted Bool.false v self ⌝ }
     {
         let at = self.count;
-        let b = bit_pattern(at);
-        let f = self.flags;
-        self.flags = f.mark(back, passes_unsigned(back, b), passes_signed(back, b));
-        self.count = wrapping_step(at, back);
-        self
+        let next = wrapping_up(at);
+        if at == -1 {
+            return self.stored(v, next, marked_past_unsigned(self.stat));
+        }
+        if at == 2147483647 {
+            return self.stored(v, next, marked_past_signed(self.stat));
+        }
+        self.stored(v, next, marked_up(self.stat))
     }
 
-    fn failed(mut self) -> Encoder
-        ensures { λ r. ⌜ r ≡ failed self ⌝ }
+    fn counted_down(self, v: u8) -> Encoder
+        ensures { λ r. ⌜ r ≡ counted Bool.true v self ⌝ }
     {
-        self.flags.err = true;
-        self
+        let at = self.count;
+        let next = wrapping_down(at);
+        self.stored(v, next, marked_down(self.stat))
     }
 
-    // MODE 0
-    fn turned(self, places: u8) -> Encoder
-        ensures { λ r. ⌜ r ≡ quadrature places self ⌝ }
+    // MODE 0, by how many places forward the pins are.
+    fn quadrature(self, places: u8, v: u8) -> Encoder
+        ensures { λ r. ⌜ r ≡ quadrature places v self ⌝ }
     {
         if places == 0 {
-            return self;
+            return self.kept(v);
         }
         if places == 1 {
-            return self.counted(false);
+            return self.counted_up(v);
         }
         if places == 2 {
-            return self.failed();
+            return self.stored(v, self.count, erred(self.stat));
         }
-        self.counted(true)
+        self.counted_down(v)
     }
 
-    // MODE 1
-    fn clocked(self, old: u8, new: u8) -> Encoder
-        ensures { λ r. ⌜ r ≡ clocked old new self ⌝ }
+    // MODE 1.
+    fn clocked(self, v: u8) -> Encoder
+        ensures { λ r. ⌜ r ≡ clocked v self ⌝ }
     {
-        if (old % 2 == 0) & (new % 2 == 1) {
-            return self.counted(new / 2 % 2 == 1);
+        if !(self.pins % 2 == 1) & (v % 2 == 1) {
+            if v / 2 % 2 == 1 {
+                return self.counted_down(v);
+            }
+            return self.counted_up(v);
         }
-        self
-    }
-
-    fn stored(mut self, v: u8) -> Encoder
-        ensures { λ r. ⌜ r ≡ stored v self ⌝ }
-    {
-        self.seen = true;
-        self.pins = v;
-        self
-    }
-
-    fn moved(self, old: u8, new: u8) -> Encoder
-        ensures { λ r. ⌜ r ≡ moved old new self ⌝ }
-    {
-        let c = self.config;
-        if c.mode {
-            self.clocked(old, new)
-        } else {
-            self.turned(turn(old, new))
-        }
+        self.kept(v)
     }
 
     // A pins record: bit 0 is A, bit 1 is B.
     pub fn pins(self, v: u8) -> Encoder
         ensures { λ r. ⌜ r ≡ onPins v self ⌝ }
     {
-        let c = self.config;
-        let old = self.pins;
-        if c.en {
-            if self.seen & !c.rst {
-                self.stored(v).moved(old, v)
-            } else {
-                self.stored(v)
+        let c = self.cnfg;
+        // EN 1, RST 0 and MODE 0, by one test
+        if c % 8 == 1 {
+            if self.seen {
+                return self.quadrature(places(self.pins, v), v);
             }
-        } else {
-            self
+            return self.kept(v);
+        }
+        if c % 2 == 0 {
+            return self;
+        }
+        if !self.seen | (c / 2 % 2 == 1) {
+            return self.kept(v);
+        }
+        self.clocked(v)
+    }
+
+    pub fn write_cnfg(self, v: u32) -> Encoder
+        ensures { λ r. ⌜ r ≡ onCnfg v self ⌝ }
+    {
+        let c = self.cnfg;
+        Encoder {
+            count: kept_count(v / 2 % 2 == 1, self.count),
+            cnfg: v,
+            stat: cleared(
+                !(c / 8 % 2 == 1) & (v / 8 % 2 == 1),
+                !(c / 16 % 2 == 1) & (v / 16 % 2 == 1),
+                self.stat,
+            ),
+            pins: self.pins,
+            seen: self.seen
+                & !(((c % 2 == 1) != (v % 2 == 1)) | ((c / 4 % 2 == 1) != (v / 4 % 2 == 1))),
         }
     }
 
-    pub fn write_cnfg(mut self, v: u8) -> Encoder
-        ensures { λ r. ⌜ r ≡ onCnfg v self ⌝ }
-    {
-        let old = self.config;
-        let f = self.flags;
-        let new = Config::of(v);
-        self.config = new;
-        self.flags = f.clear(!old.cerr & new.cerr, !old.covr & new.covr);
-        self.seen = self.seen & !((old.en != new.en) | (old.mode != new.mode));
-        self.count = kept(new.rst, self.count);
-        self
-    }
-
     // SELECT was written: whether it routed this encoder before, and does now.
-    pub fn rerouted(mut self, was: bool, now: bool) -> Encoder
+    pub fn rerouted(self, was: bool, now: bool) -> Encoder
         ensures { λ r. ⌜ r ≡ onSelect was now self ⌝ }
     {
-        self.seen = self.seen & !(!was & now);
-        self
+        Encoder {
+            count: self.count,
+            cnfg: self.cnfg,
+            stat: self.stat,
+            pins: self.pins,
+            seen: self.seen & !(!was & now),
+        }
     }
 
-    pub fn cnfg(self) -> u8
-        ensures { λ r. ⌜ r ≡ cnfgOf self ⌝ }
+    pub fn register(self, register: u64) -> u64
+        ensures { λ r. ⌜ r ≡ registerOf register self ⌝ }
     {
-        let c = self.config;
-        number(c.en)
-            + 2 * number(c.rst)
-            + 4 * number(c.mode)
-            + 8 * number(c.cerr)
-            + 16 * number(c.covr)
-    }
-
-    pub fn stat(self) -> u8
-        ensures { λ r. ⌜ r ≡ statOf self ⌝ }
-    {
-        let f = self.flags;
-        number(f.dir)
-            + 2 * number(f.err)
-            + 4 * number(f.uovr)
-            + 8 * number(f.sovr)
-            + 16 * number(f.uoerr)
-            + 32 * number(f.soerr)
-    }
-
-    pub fn cntr(self) -> u32
-        ensures { λ r. ⌜ r ≡ cntrOf self ⌝ }
-    {
-        bit_pattern(self.count)
+        if register == 0 {
+            return self.cnfg as u64;
+        }
+        if register == 1 {
+            return self.stat as u64;
+        }
+        bit_pattern(self.count) as u64
     }
 }

@@ -1,2 +1,1 @@
 pub mod Proved
-mod Rules

@@ -6,8 +6,7 @@ use mathlib.Core.Bool.{Bool}
 use Rattle.bits.specs.Bits.{num}
 use Rattle.i2c.specs.declared.Phase.{Phase}
 use Rattle.i2c.specs.declared.Phase.the-variants.{Idle, TxIdle, RxIdle}
-use Rattle.i2c.specs.declared.I2c.{I2c}
-use Rattle.i2c.specs.I2c.{codeOf, allowed, refusalOf, onGo}
+use Rattle.i2c.specs.I2c.{codeOf, allowed}
 
 -- how many of 0 .. n - 1 pass a test
 abbrev pub count : (ℕ → Bool) → ℕ → ℕ
@@ -24,7 +23,3 @@ pub record Sums : Type 0 where
   pub idle : allowedFrom Idle ≡ 7
   pub tx : allowedFrom TxIdle ≡ 15
   pub rx : allowedFrom RxIdle ≡ 14
-
--- a GO is refused by 11 or by nothing, and one that is refused changes nothing
-abbrev pub RefusedStays : Type 0
-RefusedStays = (c : I2c) → (refusalOf c ≡ 0 → ⊥) → (refusalOf c ≡ 11) × (onGo c ≡ c)

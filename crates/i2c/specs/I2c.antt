@@ -2,7 +2,9 @@
 -- Assumes nothing.
 use Prim.Native.Nat.{ℕ}
 use mathlib.Core.Bool.{Bool, true, false, not, cond, _&&_, _||_}
+use lib.Dec.{eqb}
 use Rattle.bits.specs.Bits.{bit}
+use Rattle.fold.specs.Turn.{Turn, goes, refused}
 use Rattle.i2c.specs.declared.Phase.{Phase}
 use Rattle.i2c.specs.declared.Phase.the-variants.{Idle, TxIdle, RxIdle}
 use Rattle.i2c.specs.declared.I2c.{I2c}
@@ -46,23 +48,27 @@ ended k = cond (k .byte) (cond (k .stop) Idle (cond (k .receive) RxIdle TxIdle))
 
 -- ---- what happens to the sequencer
 
--- the code that a GO would run
-abbrev pub code : I2c → Code
-code c = codeOf (c .addr) (c .cntl)
-
 abbrev pub onAddr : ℕ → I2c → I2c
 onAddr v c = record { addr = v; cntl = c .cntl; phase = c .phase }
 
 abbrev pub onCntl : ℕ → I2c → I2c
 onCntl v c = record { addr = c .addr; cntl = v; phase = c .phase }
 
--- refusal 11: "GO with a control code not allowed"; 0 where it is allowed
-abbrev pub refusalOf : I2c → ℕ
-refusalOf c = cond (allowed (c .phase) (code c)) 0 11
+-- the code that a GO would run, and the sequencer once it has run
+abbrev pub code : I2c → Code
+code c = codeOf (c .addr) (c .cntl)
 
--- a GO; one that is refused changes nothing
-abbrev pub onGo : I2c → I2c
-onGo c = cond (allowed (c .phase) (code c)) (record { addr = c .addr; cntl = c .cntl; phase = ended (code c) }) c
+abbrev pub ran : I2c → I2c
+ran c = record { addr = c .addr; cntl = c .cntl; phase = ended (code c) }
+
+-- 11 "GO with a control code not allowed"
+abbrev pub goTurn : I2c → Turn I2c ℕ
+goTurn c = cond (allowed (c .phase) (code c)) (goes (ran c)) (refused 11)
+
+-- ---- what is read: "0 ADDR, 1 CNTL, .. 3 state"
+
+abbrev pub registerOf : ℕ → I2c → ℕ
+registerOf register c = cond (eqb register 0) (c .addr) (cond (eqb register 1) (c .cntl) (stateOf (c .phase)))
 
 -- "Fresh state: all registers 0, I2C idle"
 abbrev pub fresh : I2c

@@ -1,6 +1,6 @@
 // The I2C control sequencer: the two registers that GO takes its code from, and the state that it leaves.
 ghost use mathlib.Core.Path.{_≡_};
-ghost use Rattle.i2c.specs.I2c.{codeOf, stateOf, busy, matches, allowed, refusalOf, ended, onAddr, onCntl, onGo, fresh};
+ghost use Rattle.i2c.specs.I2c.{codeOf, code, stateOf, busy, matches, allowed, ended, onAddr, onCntl, ran, registerOf, fresh};
 
 pub enum Phase {
     Idle,
@@ -94,52 +94,48 @@ impl I2c {
         }
     }
 
-    pub fn write_addr(mut self, v: u8) -> I2c
+    pub fn write_addr(self, v: u8) -> I2c
         ensures { λ r. ⌜ r ≡ onAddr v self ⌝ }
     {
-        self.addr = v;
-        self
+        let phase = self.phase;
+        I2c {
+            addr: v,
+            cntl: self.cntl,
+            phase,
+        }
     }
 
-    pub fn write_cntl(mut self, v: u8) -> I2c
+    pub fn write_cntl(self, v: u8) -> I2c
         ensures { λ r. ⌜ r ≡ onCntl v self ⌝ }
     {
-        self.cntl = v;
-        self
+        let phase = self.phase;
+        I2c {
+            addr: self.addr,
+            cntl: v,
+            phase,
+        }
     }
 
-    fn permits(self, code: Code) -> bool
-        ensures { λ r. ⌜ r ≡ allowed (self .phase) code ⌝ }
+    // Whether a GO is allowed.
+    pub fn permits(self) -> bool
+        ensures { λ r. ⌜ r ≡ allowed (self .phase) (code self) ⌝ }
     {
         let phase = self.phase;
-        allowed(phase, code)
+        allowed(phase, Code::of(self.addr, self.cntl))
     }
 
-    // Whether GO is refused: 11, or 0.
-    pub fn refusal(self) -> u8
-        ensures { λ r. ⌜ r ≡ refusalOf self ⌝ }
-    {
-        if self.permits(Code::of(self.addr, self.cntl)) {
-            return 0;
-        }
-        11
-    }
-
+    // A GO that is allowed.
     pub fn go(self) -> I2c
-        ensures { λ r. ⌜ r ≡ onGo self ⌝ }
+        ensures { λ r. ⌜ r ≡ ran self ⌝ }
     {
-        let code = Code::of(self.addr, self.cntl);
-        if self.permits(code) {
-            return I2c {
-                addr: self.addr,
-                cntl: self.cntl,
-                phase: ended(code),
-            };
+        I2c {
+            addr: self.addr,
+            cntl: self.cntl,
+            phase: ended(Code::of(self.addr, self.cntl)),
         }
-        self
     }
 
-    pub fn state(self) -> u8
+    fn state(self) -> u8
         ensures { λ r. ⌜ r ≡ stateOf (self .phase) ⌝ }
     {
         let phase = self.phase;
@@ -148,5 +144,17 @@ impl I2c {
             Phase::TxIdle => 1,
             Phase::RxIdle => 2,
         }
+    }
+
+    pub fn register(self, register: u64) -> u64
+        ensures { λ r. ⌜ r ≡ registerOf register self ⌝ }
+    {
+        if register == 0 {
+            return self.addr as u64;
+        }
+        if register == 1 {
+            return self.cntl as u64;
+        }
+        self.state() as u64
     }
 }

@@ -1,3 +1,4 @@
-mod Turns
-mod Waits
+-- Laws that belong to no one function.
+mod Rounds
+pub mod Waits
 pub mod Proved

@@ -1,45 +1,44 @@
 -- The facts of specs/Facts.antt.
 -- Assumes nothing.
-use mathlib.Core.Path.{_≡_, refl, sym, ap, _∙_}
-use mathlib.Core.Bool.{Bool, true, false, not, cond, _&&_, and-false, true≢false}
-use Prim.Native.Nat.{ℕ, zero, suc, _+_, _≤_, _<_}
-use native.Mathlib.Omega.{arith}
+use mathlib.Core.Path.{_≡_, refl, ap, _∙_}
+use mathlib.Core.Bool.{Bool, true, false, cond, _&&_, and-false}
+use Prim.Native.Nat.{ℕ, zero, suc, _+_, _<_}
 use lib.Dec.{ltb, eqb}
 use borrow.Author.Tests.{ltb-true}
 use Rattle.divider.specs.Divider.{dividerOf}
+use Rattle.pwm.specs.declared.Registers.{Registers}
+use Rattle.pwm.specs.declared.Wave.{Wave}
 use Rattle.pwm.specs.declared.Pwm.{Pwm}
-use Rattle.pwm.specs.Pwm.{configOf, arrived, stepped, withRemainder, ticked, ticksOf}
-use Rattle.pwm.specs.Facts.{Sums, Always, Quiet, Short, ReadBack}
+use Rattle.pwm.specs.Pwm.{stepped, ticked, waited}
+use Rattle.pwm.specs.How.{at, moved}
+use Rattle.pwm.specs.Facts.{Always, Quiet, Short, ReadBack}
 
-pub sums : Sums
-unfolding ticked ticksOf
-sums = record { counter = refl; output = refl; steps = refl; remainder = refl }
+pub read-back : (v : ℕ) (p : Pwm) → ReadBack v p
+read-back v p = record { cnfg = refl; cs = refl; max = refl; cmp = refl }
 
-pub read-back : (p : Pwm) → ReadBack p
-read-back p = record { zero = refl; inv = refl; mode = refl; both = refl }
+-- what a tick keeps where it only adds to the remainder, and where the counter steps, a wait keeps
+module _ (g : Registers) (Holds : Wave → Type 0)
+    (more : (w : Wave) → Holds w → w .remainder + 1 < dividerOf (g .cs) → Holds (at (w .counter) (w .remainder + 1) (w .output)))
+    (full : (w : Wave) → Holds w → Holds (stepped g w)) where
+  tick : (w : Wave) → Holds w → (off on : Bool) → ltb (w .remainder + 1) (dividerOf (g .cs)) ≡ on →
+      Holds (cond off w (cond on (at (w .counter) (w .remainder + 1) (w .output)) (stepped g w)))
+  tick w h true on e = h
+  tick w h false true e = more w h (ltb-true _ _ e)
+  tick w h false false e = full w h
 
--- what a tick leaves alone, and holds where it only adds to the remainder and where the counter steps, holds after it
-tick-both : (Holds : Pwm → Type 0) (p : Pwm) → Holds p
-    → ((p .remainder + 1 < dividerOf (p .cs)) → Holds (withRemainder (p .remainder + 1) p)) → Holds (stepped (withRemainder 0 p)) → Holds (ticked p)
-unfolding ticked
-tick-both Holds p same more full = off (eqb (dividerOf (p .cs)) 0)
-  where
-    on : (b : Bool) → ltb (p .remainder + 1) (dividerOf (p .cs)) ≡ b → Holds (cond b (withRemainder (p .remainder + 1) p) (stepped (withRemainder 0 p)))
-    on true e = more (ltb-true (p .remainder + 1) (dividerOf (p .cs)) e)
-    on false e = full
-
-    off : (b : Bool) → Holds (cond b p (cond (ltb (p .remainder + 1) (dividerOf (p .cs))) (withRemainder (p .remainder + 1) p) (stepped (withRemainder 0 p))))
-    off true = same
-    off false = on (ltb (p .remainder + 1) (dividerOf (p .cs))) refl
+  kept : (t : ℕ) (w : Wave) → Holds w → Holds (waited t g w)
+  unfolding waited ticked
+  kept zero w h = h
+  kept (suc t) w h = tick (waited t g w) (kept t w h) (eqb (dividerOf (g .cs)) 0) _ refl
 
 pub quiet : Always Quiet
 quiet = record {
   first = λ m. refl;
-  cnfg = λ v p h m. ap (λ (b : Bool). p .output && b) m ∙ and-false (p .output);
+  cnfg = λ v p h m. ap (λ (b : Bool). p .wave .output && b) m ∙ and-false (p .wave .output);
   cs = λ v p h. h;
   max = λ v p h. h;
   cmp = λ v p h. h;
-  tick = λ p h. tick-both Quiet p h (λ l. h) (λ m. rw m (h m));
+  ticks = λ t p h. kept (p .registers) (λ (w : Wave). Quiet (moved p w)) (λ w k l. k) (λ w k m. rw m (k m)) t (p .wave) h;
 }
 
 pub short : Always Short
@@ -49,5 +48,5 @@ short = record {
   cs = λ v p h k. k;
   max = λ v p h. h;
   cmp = λ v p h. h;
-  tick = λ p h. tick-both Short p h (λ l k. l) (λ k. k);
+  ticks = λ t p h. kept (p .registers) (λ (w : Wave). Short (moved p w)) (λ w k l m. l) (λ w k m. m) t (p .wave) h;
 }

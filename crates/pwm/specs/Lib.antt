@@ -1,3 +1,3 @@
 pub mod Pwm
-pub mod Waits
+pub mod How
 pub mod Facts

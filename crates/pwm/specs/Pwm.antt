@@ -1,33 +1,26 @@
--- One PWM channel, as paper 01 has it.
+-- One PWM channel, as paper 01 has it: its registers, and what ticks move.
 -- Assumes nothing.
-use Prim.Native.Nat.{ℕ, zero, suc, _+_, _*_}
-use mathlib.Core.Bool.{Bool, true, false, not, cond, _&&_}
+use Prim.Native.Nat.{ℕ, zero, suc, _+_}
+use mathlib.Core.Bool.{Bool, false, not, cond, _&&_}
 use lib.Dec.{ltb, leb, eqb}
 use Rattle.bits.specs.Bits.{bit, num}
 use Rattle.divider.specs.Divider.{dividerOf}
-use Rattle.pwm.specs.declared.Config.{Config}
+use Rattle.pwm.specs.declared.Registers.{Registers}
+use Rattle.pwm.specs.declared.Wave.{Wave}
 use Rattle.pwm.specs.declared.Pwm.{Pwm}
 
 -- "CNFG ..: bit 0 INV, bit 2 MODE"
-abbrev pub configOf : ℕ → Config
-configOf v = record { inv = bit 0 v; mode = bit 2 v }
+abbrev pub inv : ℕ → Bool
+inv cnfg = bit 0 cnfg
+
+abbrev pub mode : ℕ → Bool
+mode cnfg = bit 2 cnfg
 
 -- ---- a tick
 
-abbrev pub withRemainder : ℕ → Pwm → Pwm
-withRemainder r p = record {
-  config = p .config;
-  cs = p .cs;
-  max = p .max;
-  cmp = p .cmp;
-  remainder = r;
-  counter = p .counter;
-  output = p .output;
-}
-
 -- "the top is MAX in MODE 1, 65,535 in MODE 0"
-abbrev pub topOf : Bool → ℕ → ℕ
-topOf mode max = cond mode max 65535
+abbrev pub topOf : Registers → ℕ
+topOf g = cond (mode (g .cnfg)) (g .max) 65535
 
 -- "A step goes to 0 if the counter is at or above the top, else adds 1"
 abbrev pub nextOf : ℕ → ℕ → ℕ
@@ -40,90 +33,75 @@ atZero inv counter output = cond (eqb counter 0) (not inv) output
 abbrev pub atCmp : Bool → ℕ → ℕ → Bool → Bool
 atCmp inv cmp counter output = cond (eqb counter cmp) inv output
 
-abbrev pub arrived : Pwm → ℕ → Bool
-arrived p counter =
-    cond (p .config .mode)
-    (atCmp (p .config .inv) (p .cmp) counter (atZero (p .config .inv) counter (p .output)))
-    (p .output)
+abbrev pub arrived : Registers → ℕ → Bool → Bool
+arrived g counter output =
+    cond (mode (g .cnfg)) (atCmp (inv (g .cnfg)) (g .cmp) counter (atZero (inv (g .cnfg)) counter output)) output
 
-abbrev pub stepped : Pwm → Pwm
-stepped p = record {
-  config = p .config;
-  cs = p .cs;
-  max = p .max;
-  cmp = p .cmp;
-  remainder = p .remainder;
-  counter = nextOf (p .counter) (topOf (p .config .mode) (p .max));
-  output = arrived p (nextOf (p .counter) (topOf (p .config .mode) (p .max)));
+-- "at N the remainder is 0 and the counter steps"
+abbrev pub stepped : Registers → Wave → Wave
+stepped g w = record {
+  counter = nextOf (w .counter) (topOf g);
+  remainder = 0;
+  output = arrived g (nextOf (w .counter) (topOf g)) (w .output);
 }
 
 -- "With CS 0 a tick does nothing. Otherwise a tick adds one to a remainder; at N the remainder is 0 and the counter steps"
-unfoldable pub ticked : Pwm → Pwm
-ticked p =
-    cond (eqb (dividerOf (p .cs)) 0) p
-    (cond (ltb (p .remainder + 1) (dividerOf (p .cs))) (withRemainder (p .remainder + 1) p) (stepped (withRemainder 0 p)))
+unfoldable pub ticked : Registers → Wave → Wave
+ticked g w =
+    cond (eqb (dividerOf (g .cs)) 0) w
+    (cond (ltb (w .remainder + 1) (dividerOf (g .cs)))
+    (record { counter = w .counter; remainder = w .remainder + 1; output = w .output })
+    (stepped g w))
 
 -- "A record of t ticks is t single ticks"
-unfoldable pub ticksOf : ℕ → Pwm → Pwm
-ticksOf zero p = p
-ticksOf (suc t) p = ticked (ticksOf t p)
+unfoldable pub waited : ℕ → Registers → Wave → Wave
+waited zero g w = w
+waited (suc t) g w = ticked g (waited t g w)
 
--- ---- writes
+abbrev pub onTicks : ℕ → Pwm → Pwm
+onTicks t p = record { registers = p .registers; wave = waited t (p .registers) (p .wave) }
+
+-- ---- writes: "No other write moves counter or output"
 
 -- "Writing CNFG with MODE 0 makes the output 0"
 abbrev pub onCnfg : ℕ → Pwm → Pwm
 onCnfg v p = record {
-  config = configOf v;
-  cs = p .cs;
-  max = p .max;
-  cmp = p .cmp;
-  remainder = p .remainder;
-  counter = p .counter;
-  output = p .output && configOf v .mode;
+  registers = record { cnfg = v; cs = p .registers .cs; max = p .registers .max; cmp = p .registers .cmp };
+  wave = record { counter = p .wave .counter; remainder = p .wave .remainder; output = p .wave .output && mode v };
 }
 
 -- "Writing CS sets the remainder to 0"
 abbrev pub onCs : ℕ → Pwm → Pwm
 onCs v p = record {
-  config = p .config;
-  cs = v;
-  max = p .max;
-  cmp = p .cmp;
-  remainder = 0;
-  counter = p .counter;
-  output = p .output;
+  registers = record { cnfg = p .registers .cnfg; cs = v; max = p .registers .max; cmp = p .registers .cmp };
+  wave = record { counter = p .wave .counter; remainder = 0; output = p .wave .output };
 }
 
 abbrev pub onMax : ℕ → Pwm → Pwm
 onMax v p = record {
-  config = p .config;
-  cs = p .cs;
-  max = v;
-  cmp = p .cmp;
-  remainder = p .remainder;
-  counter = p .counter;
-  output = p .output;
+  registers = record { cnfg = p .registers .cnfg; cs = p .registers .cs; max = v; cmp = p .registers .cmp };
+  wave = p .wave;
 }
 
 abbrev pub onCmp : ℕ → Pwm → Pwm
 onCmp v p = record {
-  config = p .config;
-  cs = p .cs;
-  max = p .max;
-  cmp = v;
-  remainder = p .remainder;
-  counter = p .counter;
-  output = p .output;
+  registers = record { cnfg = p .registers .cnfg; cs = p .registers .cs; max = p .registers .max; cmp = v };
+  wave = p .wave;
 }
 
--- ---- what is read
+-- ---- what is read: "0 CNFG, 1 CS, 2 MAX, 3 CMP, 4 CNTR, 5 output level"
 
-abbrev pub cnfgOf : Pwm → ℕ
-cnfgOf p = num (p .config .inv) + 4 * num (p .config .mode)
-
-abbrev pub levelOf : Pwm → ℕ
-levelOf p = num (p .output)
+abbrev pub registerOf : ℕ → Pwm → ℕ
+registerOf register p =
+    cond (eqb register 0) (p .registers .cnfg)
+    (cond (eqb register 1) (p .registers .cs)
+    (cond (eqb register 2) (p .registers .max)
+    (cond (eqb register 3) (p .registers .cmp)
+    (cond (eqb register 4) (p .wave .counter) (num (p .wave .output))))))
 
 -- "Fresh state: all registers 0"
 abbrev pub fresh : Pwm
-fresh = record { config = configOf 0; cs = 0; max = 0; cmp = 0; remainder = 0; counter = 0; output = false }
+fresh = record {
+  registers = record { cnfg = 0; cs = 0; max = 0; cmp = 0 };
+  wave = record { counter = 0; remainder = 0; output = false };
+}

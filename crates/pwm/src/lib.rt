@@ -1,79 +1,51 @@
-// One PWM channel: its registers, the clock's remainder, the counter and the output.
+// One PWM channel: its registers, and the wave that ticks move.
 use bits::number;
 use divider::divider;
+use std::num::wrapping_sub_u8;
 ghost use mathlib.Core.Path.{_≡_};
-ghost use Prim.Native.Nat.{_-_, _/_, _%_, _≤_};
-ghost use Rattle.divider.specs.Divider.{dividerOf};
-ghost use Rattle.pwm.specs.Pwm.{configOf, cnfgOf, topOf, arrived, stepped, withRemainder, ticksOf, onCnfg, onCs, onMax, onCmp, levelOf, fresh};
-ghost use Rattle.pwm.specs.Waits.{often, dueOf, passed, climbed, wrapped};
+ghost use mathlib.Core.Bool.{true};
+ghost use Prim.Native.Nat.{_+_, _^_, _≤_, _<_, min};
+ghost use Rattle.pwm.specs.Pwm.{inv, mode, onTicks, onCnfg, onCs, onMax, onCmp, registerOf, fresh};
+ghost use Rattle.pwm.specs.How.{at, moved, climbed, wrapped, stepsOf};
 
-pub struct Config {
-    pub inv: bool,
-    pub mode: bool,
-}
-
-pub struct Pwm {
-    pub config: Config,
-    pub cs: u8,
+pub struct Registers {
     pub max: u16,
     pub cmp: u16,
-    pub remainder: u8,
+    pub cnfg: u8,
+    pub cs: u8,
+}
+
+// What ticks move: the counter, the clock's remainder, the output.
+pub struct Wave {
     pub counter: u16,
+    pub remainder: u8,
     pub output: bool,
 }
 
-struct Split {
-    steps: u64,
-    ticks: u8,
+pub struct Pwm {
+    pub registers: Registers,
+    pub wave: Wave,
 }
 
-impl Config {
-    fn of(v: u8) -> Config
-        ensures { λ r. ⌜ r ≡ configOf v ⌝ }
-    {
-        Config {
-            inv: v % 2 == 1,
-            mode: v / 4 % 2 == 1,
-        }
-    }
-}
+// Below it all sums of a wait fit 32 bits, where the machine divides sooner: 2^32 - 2^17.
+const LONG: u64 = 4294836224;
 
-fn top(mode: bool, max: u16) -> u16
-    ensures { λ r. ⌜ r ≡ topOf mode max ⌝ }
+fn inv(cnfg: u8) -> bool
+    ensures { λ r. ⌜ r ≡ inv cnfg ⌝ }
 {
-    if mode { max } else { 65535 }
+    cnfg % 2 == 1
 }
 
-// How many ticks make the next step.
-fn due(n: u64, remainder: u64) -> u64
-    ensures { λ r. ⌜ r ≡ dueOf n remainder ⌝ }
+fn mode(cnfg: u8) -> bool
+    ensures { λ r. ⌜ r ≡ mode cnfg ⌝ }
 {
-    if n <= remainder {
-        return 1;
-    }
-    n - remainder
+    cnfg / 4 % 2 == 1
 }
 
-// The whole steps in m ticks, and the ticks left. N is two to the CS less one, so that a shift divides.
-fn divided(m: u64, cs: u8, n: u64) -> Split
-    requires { ⌜ (n ≡ dividerOf cs) × (n ≡ 0 → ⊥) × (n ≤ 64) ⌝ }
-    ensures { λ r. ⌜ (r .steps ≡ m / n) × (r .steps ≤ m) × (r .ticks ≡ m % n) ⌝ }
+fn least(a: u64, b: u64) -> u64
+    ensures { λ r. ⌜ r ≡ min a b ⌝ }
 {
-    let steps = m >> (cs as u64 - 1);
-    Split {
-        steps: steps,
-        ticks: (m - n * steps) as u8,
-    }
-}
-
-// How many steps go up before one goes to 0.
-fn room(top: u64, counter: u64) -> u64
-    ensures { λ r. ⌜ r ≡ top - counter ⌝ }
-{
-    if top <= counter {
-        return 0;
-    }
-    top - counter
+    if a < b { a } else { b }
 }
 
 impl Pwm {
@@ -81,142 +53,203 @@ impl Pwm {
         ensures { λ r. ⌜ r ≡ fresh ⌝ }
     {
         Pwm {
-            config: Config {
-                inv: false,
-                mode: false,
+            registers: Registers {
+                max: 0,
+                cmp: 0,
+                cnfg: 0,
+                cs: 0,
             },
-            cs: 0,
-            max: 0,
-            cmp: 0,
-            remainder: 0,
-            counter: 0,
-            output: false,
+            wave: Wave {
+                counter: 0,
+                remainder: 0,
+                output: false,
+            },
         }
     }
 
-    // The output once the counter has gone up to a value.
-    fn passed(self, counter: u16) -> bool
-        ensures { λ r. ⌜ r ≡ passed self counter ⌝ }
+    // What ticks can change.
+    fn moved(self, counter: u16, remainder: u8, output: bool) -> Pwm
+        ensures { λ p. ⌜ p ≡ moved self (at counter remainder output) ⌝ }
     {
-        let c = self.config;
-        if c.mode & (self.counter < self.cmp) & (self.cmp <= counter) {
-            return c.inv;
+        let g = self.registers;
+        Pwm {
+            registers: g,
+            wave: Wave {
+                counter: counter,
+                remainder: remainder,
+                output: output,
+            },
         }
-        self.output
     }
 
-    fn climbed(mut self, counter: u16) -> Pwm
-        ensures { λ r. ⌜ r ≡ climbed counter self ⌝ }
+    // MODE 1: the counter goes up to k.
+    fn climbed(self, k: u16, r: u8) -> Pwm
+        ensures { λ p. ⌜ p ≡ moved self (climbed (self .registers) k r (self .wave)) ⌝ }
     {
-        let output = self.passed(counter);
-        self.counter = counter;
-        self.output = output;
-        self
-    }
-
-    // The output once the counter has gone to 0.
-    fn at_zero(self) -> bool
-        ensures { λ r. ⌜ r ≡ arrived self 0 ⌝ }
-    {
-        let c = self.config;
-        if c.mode {
-            if 0 == self.cmp {
-                return c.inv;
-            }
-            return !c.inv;
+        if (self.wave.counter < self.registers.cmp) & (self.registers.cmp <= k) {
+            return self.moved(k, r, inv(self.registers.cnfg));
         }
-        self.output
+        self.moved(k, r, self.wave.output)
     }
 
-    fn wrapped(mut self) -> Pwm
-        ensures { λ r. ⌜ r ≡ wrapped self ⌝ }
+    // MODE 1: the counter goes to 0, perhaps often, and then up to k.
+    fn wrapped(self, k: u16, r: u8) -> Pwm
+        ensures { λ p. ⌜ p ≡ moved self (wrapped (self .registers) k r) ⌝ }
     {
-        let output = self.at_zero();
-        self.counter = 0;
-        self.output = output;
-        self
+        self.moved(k, r, inv(self.registers.cnfg) == (self.registers.cmp <= k))
     }
 
-    // s steps: the output depends only on the way since the counter was last 0.
-    fn steps(self, s: u64) -> Pwm
-        ensures { λ r. ⌜ r ≡ often stepped s self ⌝ }
+    // MODE 1, above MAX: the first step goes to 0.
+    fn above(self, s: u64, r: u8) -> Pwm
+        requires { ⌜ (mode (self .registers .cnfg) ≡ true) × (self .registers .max < self .wave .counter) ⌝ }
+        ensures { λ p. ⌜ p ≡ moved self (stepsOf s r (self .registers) (self .wave)) ⌝ }
     {
-        let c = self.config;
-        let top = top(c.mode, self.max) as u64;
-        let counter = self.counter as u64;
-        let room = room(top, counter);
-        if s <= room {
-            return self.climbed((counter + s) as u16);
+        if s == 0 {
+            return self.moved(self.wave.counter, r, self.wave.output);
         }
-        let k = (s - room - 1) % (top + 1);
-        self.wrapped().climbed(k as u16)
+        self.wrapped(((s - 1) % (self.registers.max as u64 + 1)) as u16, r)
     }
 
-    fn with_remainder(mut self, r: u8) -> Pwm
-        ensures { λ q. ⌜ q ≡ withRemainder r self ⌝ }
+    // s steps in MODE 1, to `end` if MAX is not in the way. The output depends only on the way since the counter was last 0.
+    fn in_mode_1(self, s: u64, end: u64, r: u8) -> Pwm
+        requires { ⌜ (mode (self .registers .cnfg) ≡ true) × (end ≡ self .wave .counter + s) ⌝ }
+        ensures { λ p. ⌜ p ≡ moved self (stepsOf s r (self .registers) (self .wave)) ⌝ }
     {
-        self.remainder = r;
-        self
+        let max = self.registers.max as u64;
+        if end <= max {
+            return self.climbed(end as u16, r);
+        }
+        if self.registers.max < self.wave.counter {
+            return self.above(s, r);
+        }
+        self.wrapped((end % (max + 1)) as u16, r)
     }
 
-    // A record of t ticks.
-    pub fn ticks(self, t: u64) -> Pwm
-        ensures { λ r. ⌜ r ≡ ticksOf t self ⌝ }
+    // s steps, and the remainder that is left.
+    fn steps(self, s: u64, r: u8) -> Pwm
+        requires { ⌜ s ≤ 2 ^ 63 + 255 ⌝ }
+        ensures { λ p. ⌜ p ≡ moved self (stepsOf s r (self .registers) (self .wave)) ⌝ }
     {
-        let n = divider(self.cs as u64);
-        if n == 0 {
+        let end = self.wave.counter as u64 + s;
+        if mode(self.registers.cnfg) {
+            return self.in_mode_1(s, end, r);
+        }
+        self.moved((end % 65536) as u16, r, self.wave.output)
+    }
+
+    // A tick or more. CS 1 to 7 have the places 0 to 6 in the divider table; CS 0 wraps to none. N is two to the power of its place, so
+    // that a shift divides by it, and a mask leaves the rest. A remainder that has passed N does as N - 1: the next tick steps.
+    fn waited(self, t: u64) -> Pwm
+        requires { ⌜ (1 ≤ t) × (t ≤ 2 ^ 63) ⌝ }
+        ensures { λ p. ⌜ p ≡ onTicks t self ⌝ }
+    {
+        let place = wrapping_sub_u8(self.registers.cs, 1);
+        if 6 < place {
             return self;
         }
-        let remainder = self.remainder as u64;
-        let due = due(n, remainder);
-        if t < due {
-            return self.with_remainder((remainder + t) as u8);
-        }
-        let rest = divided(t - due, self.cs, n);
-        self.steps(rest.steps + 1).with_remainder(rest.ticks)
+        let n = divider(self.registers.cs as u64);
+        let m = least(self.wave.remainder as u64, n - 1) + t;
+        self.steps(m >> (place as u64), (m & (n - 1)) as u8)
     }
 
-    pub fn write_cnfg(mut self, v: u8) -> Pwm
+    // A record of t ticks. A long wait is cut in two, so that no sum is too large.
+    pub fn ticks(self, t: u64) -> Pwm
+        ensures { λ p. ⌜ p ≡ onTicks t self ⌝ }
+    {
+        if t == 0 {
+            return self;
+        }
+        if LONG <= t {
+            return self.waited(t / 2).waited(t - t / 2);
+        }
+        self.waited(t)
+    }
+
+    pub fn write_cnfg(self, v: u8) -> Pwm
         ensures { λ r. ⌜ r ≡ onCnfg v self ⌝ }
     {
-        let c = Config::of(v);
-        self.config = c;
-        self.output = self.output & c.mode;
-        self
+        Pwm {
+            registers: Registers {
+                max: self.registers.max,
+                cmp: self.registers.cmp,
+                cnfg: v,
+                cs: self.registers.cs,
+            },
+            wave: Wave {
+                counter: self.wave.counter,
+                remainder: self.wave.remainder,
+                output: self.wave.output & mode(v),
+            },
+        }
     }
 
-    pub fn write_cs(mut self, v: u8) -> Pwm
+    pub fn write_cs(self, v: u8) -> Pwm
         ensures { λ r. ⌜ r ≡ onCs v self ⌝ }
     {
-        self.cs = v;
-        self.remainder = 0;
-        self
+        let remainder = 0;
+        Pwm {
+            registers: Registers {
+                max: self.registers.max,
+                cmp: self.registers.cmp,
+                cnfg: self.registers.cnfg,
+                cs: v,
+            },
+            wave: Wave {
+                counter: self.wave.counter,
+                remainder: remainder,
+                output: self.wave.output,
+            },
+        }
     }
 
-    pub fn write_max(mut self, v: u16) -> Pwm
+    pub fn write_max(self, v: u16) -> Pwm
         ensures { λ r. ⌜ r ≡ onMax v self ⌝ }
     {
-        self.max = v;
-        self
+        let w = self.wave;
+        Pwm {
+            registers: Registers {
+                max: v,
+                cmp: self.registers.cmp,
+                cnfg: self.registers.cnfg,
+                cs: self.registers.cs,
+            },
+            wave: w,
+        }
     }
 
-    pub fn write_cmp(mut self, v: u16) -> Pwm
+    pub fn write_cmp(self, v: u16) -> Pwm
         ensures { λ r. ⌜ r ≡ onCmp v self ⌝ }
     {
-        self.cmp = v;
-        self
+        let w = self.wave;
+        Pwm {
+            registers: Registers {
+                max: self.registers.max,
+                cmp: v,
+                cnfg: self.registers.cnfg,
+                cs: self.registers.cs,
+            },
+            wave: w,
+        }
     }
 
-    pub fn cnfg(self) -> u8
-        ensures { λ r. ⌜ r ≡ cnfgOf self ⌝ }
+    pub fn register(self, register: u64) -> u64
+        ensures { λ r. ⌜ r ≡ registerOf register self ⌝ }
     {
-        let c = self.config;
-        number(c.inv) + 4 * number(c.mode)
-    }
-
-    pub fn level(self) -> u8
-        ensures { λ r. ⌜ r ≡ levelOf self ⌝ }
-    {
-        number(self.output)
+        if register == 0 {
+            return self.registers.cnfg as u64;
+        }
+        if register == 1 {
+            return self.registers.cs as u64;
+        }
+        if register == 2 {
+            return self.registers.max as u64;
+        }
+        if register == 3 {
+            return self.registers.cmp as u64;
+        }
+        if register == 4 {
+            return self.wave.counter as u64;
+        }
+        number(self.wave.output) as u64
     }
 }

@@ -1,4 +1,6 @@
 mod Some
-mod Fields
-mod Clauses
+mod Marks
+mod Quick
+pub mod Fields
+pub mod Routes
 pub mod Proved

@@ -1,13 +1,13 @@
 -- The facts of specs/Facts.antt.
 -- Assumes nothing.
 use mathlib.Core.Path.{_≡_, refl, sym, ap, _∙_}
-use mathlib.Core.Bool.{Bool, true, false, not, cond, _&&_, _||_, true≢false}
-use Prim.Native.Nat.{ℕ, zero, suc, _+_, _*_, _<_}
+use mathlib.Core.Bool.{Bool, true, false, not, _&&_, _||_, true≢false}
+use Prim.Native.Nat.{ℕ, _+_, _*_}
 use native.Mathlib.Omega.{arith}
 use lib.Dec.{eqb}
-use borrow.Author.Tests.{eqb-true, eq-eqb, ne-eqb, not-false}
+use borrow.Author.Tests.{eqb-true, eq-eqb, ne-eqb, not-true, not-false}
 use Rattle.laws.proofs.Truth.{both-true, neither, nor, same, same-not}
-use Rattle.select.specs.Select.{fieldOf, threePin, strays, strayThree, splitSpi, splitI2c, halves, halfPair, refusalOf, encoderRouted, pwmRouted, i2cRouted}
+use Rattle.select.specs.Select.{fieldOf, threePin, strays, halves, allowed}
 use Rattle.select.specs.Facts.{EncoderAlone, I2cAlone, Allowed, AllowedMeans}
 use Rattle.select.proofs.Some.{none-below, all-fail}
 
@@ -51,10 +51,6 @@ none-two : (a b : Bool) → a ≡ b → ((a || b) && not (a && b)) ≡ false
 none-two a true p = rw p
 none-two a false p = rw p
 
-zero-means : (b : Bool) → _≡_ {A = ℕ} (cond b 10 0) 0 → b ≡ false
-zero-means true e = let z : ⊥ = omega (arith, e) in absurd z
-zero-means false e = refl
-
 stray-none : (select pin : ℕ) → strays select pin ≡ false → fieldOf select pin ≡ 3 → threePin pin ≡ true
 stray-none select pin e q = not-false (threePin pin) (rw (eq-eqb (fieldOf select pin) 3 q) at e)
 
@@ -65,9 +61,9 @@ none-stray select pin h false e = refl
 pub allowed-means : (select : ℕ) → AllowedMeans select
 allowed-means select = record { means = means; suffices = suffices }
   where
-    means : refusalOf select ≡ 0 → Allowed select
+    means : allowed select ≡ true → Allowed select
     means e =
-        let a = neither _ _ (zero-means _ e) in
+        let a = neither _ _ (not-true _ e) in
         let b = neither _ _ (a .1) in
         let c = neither _ _ (b .1) in
         record {
@@ -77,9 +73,9 @@ allowed-means select = record { means = means; suffices = suffices }
           pairs = λ i h. same _ _ (none-below (halves select) 10 (c .1) i h);
         }
 
-    suffices : Allowed select → refusalOf select ≡ 0
+    suffices : Allowed select → allowed select ≡ true
     suffices k =
-        ap (λ (b : Bool). cond b 10 0)
+        ap not
         (nor _ _ (all-fail (strays select) 20 (λ pin h. none-stray select pin (k .threes pin h) _ refl))
         (nor _ _ (none-split _ _ _ (k .spi .0) (k .spi .1))
         (nor _ _ (none-two _ _ (k .i2c)) (all-fail (halves select) 10 (λ i h. same-not _ _ (k .pairs i h))))))

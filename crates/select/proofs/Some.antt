@@ -1,26 +1,14 @@
 -- A search for some number that passes a test, number by number.
 -- Assumes nothing.
-use mathlib.Core.Path.{_≡_, refl, sym, ap, _∙_}
-use mathlib.Core.Bool.{Bool, true, false, _||_}
-use Prim.Native.Nat.{ℕ, zero, suc, _+_, _≤_, _<_}
-use native.Mathlib.Nat.{le-antisymm, not-suc-le-zero}
+use mathlib.Core.Path.{_≡_, refl, ap, _∙_}
+use mathlib.Core.Bool.{Bool, true, false}
+use Prim.Native.Nat.{ℕ, zero, suc, _<_}
+use native.Mathlib.Nat.{not-suc-le-zero}
 use native.Mathlib.Omega.{arith}
 use lib.Dec.{eqb}
 use borrow.Author.Tests.{eqb-true, eqb-false}
 use Rattle.laws.proofs.Truth.{neither, nor}
-use native.Mathlib.Numerals.{add-one}
 use Rattle.select.specs.Select.{some}
-
-pub some-none : (f : ℕ → Bool) → false ≡ some f 0
-unfolding some
-some-none f = refl
-
-pub some-more : (f : ℕ → Bool) (n : ℕ) (found b : Bool) → found ≡ some f n → b ≡ f n → (found || b) ≡ some f (n + 1)
-unfolding some
-some-more f n found b e h = rw (add-one n, e, h)
-
-pub some-all : (f : ℕ → Bool) (i n : ℕ) (found : Bool) → found ≡ some f i → i ≤ n → n ≤ i → found ≡ some f n
-some-all f i n found e p q = e ∙ ap (some f) (le-antisymm p q)
 
 -- where none passes each fails, and the other way
 pub none-below : (f : ℕ → Bool) (n : ℕ) → some f n ≡ false → (k : ℕ) → k < n → f k ≡ false

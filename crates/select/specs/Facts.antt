@@ -2,9 +2,9 @@
 -- Assumes nothing.
 use Prim.Native.Nat.{ℕ, _+_, _*_, _<_}
 use mathlib.Core.Path.{_≡_}
-use mathlib.Core.Bool.{Bool, true, false}
+use mathlib.Core.Bool.{true, false}
 use lib.Dec.{eqb}
-use Rattle.select.specs.Select.{fieldOf, threePin, refusalOf, encoderRouted, pwmRouted, i2cRouted}
+use Rattle.select.specs.Select.{fieldOf, threePin, allowed, encoderRouted, pwmRouted, i2cRouted}
 
 -- no pin serves two blocks: where encoder i is routed PWM 2i and 2i + 1 are not
 abbrev pub EncoderAlone : Type 0
@@ -27,5 +27,5 @@ pub record Allowed (select : ℕ) : Type 0 where
 
 -- refusal 10 is given exactly if one of them is broken
 pub record AllowedMeans (select : ℕ) : Type 0 where
-  pub means : refusalOf select ≡ 0 → Allowed select
-  pub suffices : Allowed select → refusalOf select ≡ 0
+  pub means : allowed select ≡ true → Allowed select
+  pub suffices : Allowed select → allowed select ≡ true

@@ -1,11 +1,9 @@
 -- The function select, as paper 01 has it. A SELECT is a number; its pins are the DIO 0 to 19.
 -- Assumes nothing.
 use Prim.Native.Nat.{ℕ, zero, suc, _+_, _*_, _/_, _%_, _^_}
-use mathlib.Core.Bool.{Bool, true, false, not, cond, _&&_, _||_}
+use mathlib.Core.Bool.{Bool, false, not, cond, _&&_, _||_}
 use lib.Dec.{ltb, eqb}
 use Rattle.bits.specs.Bits.{changes}
-use Rattle.select.specs.declared.Use.{Use}
-use Rattle.select.specs.declared.Use.the-variants.{Plain, Pwm, Encoder, Spi, I2c, Nothing}
 
 -- "two bits per DIO, DIO 0 lowest"; there are 20
 unfoldable pub fieldOf : ℕ → ℕ → ℕ
@@ -49,9 +47,9 @@ halves select i = changes (eqb (fieldOf select (2 * i)) 2) (eqb (fieldOf select 
 abbrev pub halfPair : ℕ → Bool
 halfPair select = some (halves select) 10
 
--- 10, or 0 for a SELECT that is allowed
-abbrev pub refusalOf : ℕ → ℕ
-refusalOf select = cond (strayThree select || (splitSpi select || (splitI2c select || halfPair select))) 10 0
+-- a SELECT with none of these
+abbrev pub allowed : ℕ → Bool
+allowed select = not (strayThree select || (splitSpi select || (splitI2c select || halfPair select)))
 
 -- ---- "Encoder i is routed if its pair is 2, PWM i if pin i is 1, I2C if 14 and 15 are 3"
 
@@ -63,15 +61,3 @@ pwmRouted select i = eqb (fieldOf select i) 1
 
 abbrev pub i2cRouted : ℕ → Bool
 i2cRouted select = eqb (fieldOf select 14) 3 && eqb (fieldOf select 15) 3
-
--- ---- what a pin serves: "0 plain, 1 PWM, 2 encoder, 3 SPI or I2C", SPI on 5, 6, 7 and I2C on 14, 15
-
-abbrev pub useThree : ℕ → Use
-useThree pin = cond (eqb pin 5 || (eqb pin 6 || eqb pin 7)) Spi (cond (eqb pin 14 || eqb pin 15) I2c Nothing)
-
-abbrev pub useAt : ℕ → ℕ → Use
-useAt field pin =
-    cond (eqb field 0) Plain (cond (eqb field 1) Pwm (cond (eqb field 2) Encoder (useThree pin)))
-
-abbrev pub useOf : ℕ → ℕ → Use
-useOf select pin = cond (ltb pin 20) (useAt (fieldOf select pin) pin) Nothing

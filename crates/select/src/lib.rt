@@ -1,17 +1,7 @@
 // The function select: what each of the 20 DIO pins serves, and which blocks are routed.
 ghost use mathlib.Core.Path.{_≡_};
-ghost use Prim.Native.Nat.{_<_};
-ghost use Rattle.select.specs.Select.{fieldOf, threePin, strays, strayThree, splitSpi, splitI2c, halves, halfPair, refusalOf, encoderRouted, pwmRouted, i2cRouted, useThree, useAt, useOf};
-
-pub enum Use {
-    Plain,
-    Pwm,
-    Encoder,
-    Spi,
-    I2c,
-    // A 3 on a pin that has neither SPI nor I2C, or no pin at all.
-    Nothing,
-}
+ghost use Rattle.select.specs.Select.{fieldOf, allowed, encoderRouted, pwmRouted, i2cRouted};
+ghost use Rattle.select.specs.How.{ones, threes, twos};
 
 // The two bits of a pin.
 fn field(select: u64, pin: usize) -> u64
@@ -23,78 +13,56 @@ fn field(select: u64, pin: usize) -> u64
     0
 }
 
-// The pins of SPI and I2C.
-fn three_pin(pin: usize) -> bool
-    ensures { λ r. ⌜ r ≡ threePin pin ⌝ }
+// The low bit of each pin's field, and of each pair's four bits.
+const PINS: u64 = 0x5555555555;
+
+const PAIRS: u64 = 0x1111111111;
+
+// PINS of 5, 6 and 7, of 14 and 15, and of these five.
+const SPI: u64 = 0x5400;
+
+const I2C: u64 = 0x50000000;
+
+const BOTH: u64 = 0x50005400;
+
+// The pins that are 3: both bits.
+fn threes(select: u64) -> u64
+    ensures { λ r. ⌜ r ≡ threes select ⌝ }
 {
-    (pin == 5) | ((pin == 6) | ((pin == 7) | ((pin == 14) | (pin == 15))))
+    (select & (select >> 1)) & PINS
 }
 
-fn strays(select: u64, pin: usize) -> bool
-    ensures { λ r. ⌜ r ≡ strays select pin ⌝ }
+// The pins that are 2: the high bit without the low one.
+fn twos(select: u64) -> u64
+    ensures { λ r. ⌜ r ≡ twos select ⌝ }
 {
-    (field(select, pin) == 3) & !three_pin(pin)
+    ((select | (select >> 1)) ^ select) & PINS
 }
 
-fn stray_three(select: u64) -> bool
-    ensures { λ r. ⌜ r ≡ strayThree select ⌝ }
+// The PWM channels that are routed: bit 2 i of the answer for channel i, and nothing else.
+pub fn pwm_pins(select: u64) -> u64
+    ensures { λ r. ⌜ r ≡ ones select ⌝ }
 {
-    let mut found = false;
-    for pin in 0..20 {
-        found = found | strays(select, pin);
-    }
-    found
+    ((select | (select >> 1)) ^ (select >> 1)) & PINS
 }
 
-fn split_spi(select: u64) -> bool
-    ensures { λ r. ⌜ r ≡ splitSpi select ⌝ }
+// Whether the combination is allowed: the pins that are 3 are none, those of SPI, those of I2C or both; the pins that
+// are 2 are the low pins of pairs, each with the next one (1 + 4 times).
+pub fn allowed(select: u64) -> bool
+    ensures { λ r. ⌜ r ≡ allowed select ⌝ }
 {
-    let a = field(select, 5) == 3;
-    let b = field(select, 6) == 3;
-    let c = field(select, 7) == 3;
-    (a | (b | c)) & !(a & (b & c))
+    let serial = threes(select);
+    let encoders = twos(select);
+    ((serial == 0) | ((serial == SPI) | ((serial == I2C) | (serial == BOTH))))
+        & ((encoders & PAIRS) * 5 == encoders)
 }
 
-fn split_i2c(select: u64) -> bool
-    ensures { λ r. ⌜ r ≡ splitI2c select ⌝ }
-{
-    let a = field(select, 14) == 3;
-    let b = field(select, 15) == 3;
-    (a | b) & !(a & b)
-}
-
-fn halves(select: u64, i: usize) -> bool
-    requires { ⌜ i < 10 ⌝ }
-    ensures { λ r. ⌜ r ≡ halves select i ⌝ }
-{
-    (field(select, 2 * i) == 2) != (field(select, 2 * i + 1) == 2)
-}
-
-fn half_pair(select: u64) -> bool
-    ensures { λ r. ⌜ r ≡ halfPair select ⌝ }
-{
-    let mut found = false;
-    for i in 0..10 {
-        found = found | halves(select, i);
-    }
-    found
-}
-
-// Whether a SELECT is refused: 10, or 0.
-pub fn refusal(select: u64) -> u8
-    ensures { λ r. ⌜ r ≡ refusalOf select ⌝ }
-{
-    if stray_three(select) | (split_spi(select) | (split_i2c(select) | half_pair(select))) {
-        return 10;
-    }
-    0
-}
-
+// The two pins of encoder i are 2 both: their four bits are 1010.
 pub fn encoder_routed(select: u64, i: usize) -> bool
     ensures { λ r. ⌜ r ≡ encoderRouted select i ⌝ }
 {
     if i < 10 {
-        return (field(select, 2 * i) == 2) & (field(select, 2 * i + 1) == 2);
+        return (select >> (4 * i)) % 16 == 10;
     }
     false
 }
@@ -105,46 +73,9 @@ pub fn pwm_routed(select: u64, i: usize) -> bool
     field(select, i) == 1
 }
 
+// Pins 14 and 15 are 3 both.
 pub fn i2c_routed(select: u64) -> bool
     ensures { λ r. ⌜ r ≡ i2cRouted select ⌝ }
 {
-    (field(select, 14) == 3) & (field(select, 15) == 3)
-}
-
-// What a pin at 3 serves.
-fn use_three(pin: usize) -> Use
-    ensures { λ r. ⌜ r ≡ useThree pin ⌝ }
-{
-    if (pin == 5) | ((pin == 6) | (pin == 7)) {
-        return Use::Spi;
-    }
-    if (pin == 14) | (pin == 15) {
-        return Use::I2c;
-    }
-    Use::Nothing
-}
-
-// What a pin with these two bits serves.
-fn use_at(field: u64, pin: usize) -> Use
-    ensures { λ r. ⌜ r ≡ useAt field pin ⌝ }
-{
-    if field == 0 {
-        return Use::Plain;
-    }
-    if field == 1 {
-        return Use::Pwm;
-    }
-    if field == 2 {
-        return Use::Encoder;
-    }
-    use_three(pin)
-}
-
-pub fn use_of(select: u64, pin: usize) -> Use
-    ensures { λ r. ⌜ r ≡ useOf select pin ⌝ }
-{
-    if pin < 20 {
-        return use_at(field(select, pin), pin);
-    }
-    Use::Nothing
+    (select >> 28) % 16 == 15
 }

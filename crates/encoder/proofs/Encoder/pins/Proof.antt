@@ -1,5 +1,6 @@
+-- `encoder::Encoder::pins` meets its contract. Assumes nothing.
 use borrow.Author.Needs.{needs}
-use Rattle.encoder.proofs.Rules.{pins-live, pins-still}
+use Rattle.encoder.proofs.Rules.{pins-seen, pins-first, pins-off, pins-kept, pins-clocked}
 use Rattle.encoder.proofs.Encoder.pins.Statement.{statement}
 use Rattle.encoder.proofs.Encoder.pins.Tie as tie
 
@@ -9,7 +10,11 @@ pins-spec =
     (tie.spec
     (λ c κs. search needs)
     (λ c κs. search needs)
+    (λ c. search pins-seen)
     (λ c κs. search needs)
-    (λ c. search pins-live)
-    (λ c. search pins-still)
-    (λ c. search needs))
+    (λ c. search pins-first)
+    (λ c. search pins-off)
+    (λ c κs. search needs)
+    (λ c. search pins-kept)
+    (λ c κs. search needs)
+    (λ c. search pins-clocked))

@@ -1,14 +1,6 @@
 use borrow.Author.Needs.{needs}
-use Rattle.i2c.proofs.Rules.{gone, stayed}
 use Rattle.i2c.proofs.I2c.go.Statement.{statement}
 use Rattle.i2c.proofs.I2c.go.Tie as tie
 
 pub go-spec : {M : Type 1} → statement M
-go-spec =
-    tie.close
-    (tie.spec
-    (λ c κs. search needs)
-    (λ c κs. search needs)
-    (λ c κs. search needs)
-    (λ c. search gone)
-    (λ c. search stayed))
+go-spec = tie.close (tie.spec (λ c κs. search needs) (λ c κs. search needs) (λ c. rw (c .ended .ensures, c .before .of .ensures)))

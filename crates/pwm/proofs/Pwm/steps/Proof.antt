@@ -1,5 +1,5 @@
-use Rattle.pwm.proofs.Turns.{steps-up, steps-over, turn-fits}
 use borrow.Author.Needs.{needs}
+use Rattle.pwm.proofs.Rounds.{low}
 use Rattle.pwm.proofs.Pwm.steps.Statement.{statement}
 use Rattle.pwm.proofs.Pwm.steps.Tie as tie
 
@@ -7,19 +7,11 @@ pub steps-spec : {M : Type 1} → statement M
 steps-spec =
     tie.close
     (tie.spec
-    (λ c κs. search needs)
     (λ c. search needs)
     (λ c. search needs)
     (λ c κs. search needs)
+    (λ c κs. (cc, search needs))
     (λ c. search needs)
     (λ c. search needs)
     (λ c κs. search needs)
-    (λ c. search steps-up)
-    (λ c. search needs)
-    (λ c. search needs)
-    (λ c. search needs)
-    (λ c. search needs)
-    (λ c κs. search needs)
-    (λ c. record { fits = search turn-fits })
-    (λ c κs. search needs)
-    (λ c. search steps-over))
+    (λ c. search low))

@@ -1,5 +1,5 @@
-use Rattle.pwm.proofs.Waits.{ticks-off, ticks-short, ticks-long}
 use borrow.Author.Needs.{needs}
+use Rattle.pwm.proofs.Waits.{none, halves}
 use Rattle.pwm.proofs.Pwm.ticks.Statement.{statement}
 use Rattle.pwm.proofs.Pwm.ticks.Tie as tie
 
@@ -7,17 +7,10 @@ pub ticks-spec : {M : Type 1} → statement M
 ticks-spec =
     tie.close
     (tie.spec
-    (λ c. search needs)
-    (λ c κs. search needs)
-    (λ c. search ticks-off)
-    (λ c. search needs)
-    (λ c κs. search needs)
-    (λ c. search needs)
-    (λ c. search needs)
-    (λ c κs. search needs)
-    (λ c. search ticks-short)
+    (λ c. search none)
     (λ c κs. search needs)
     (λ c. search needs)
     (λ c κs. search needs)
+    (λ c. search halves)
     (λ c κs. search needs)
-    (λ c. search ticks-long))
+    (λ c. search needs))

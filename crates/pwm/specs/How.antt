@@ -1,0 +1,37 @@
+-- How a wait is worked out: the steps in its ticks, and of the steps the way up or, past the top, the way up from the counter's last 0.
+-- No promise of a public function names it; `proofs/` show that it comes to the single ticks of `Pwm`. Assumes nothing.
+use Prim.Native.Nat.{ℕ, zero, suc}
+use mathlib.Core.Bool.{Bool, not, cond, _&&_}
+use lib.Dec.{ltb, leb}
+use Rattle.pwm.specs.declared.Registers.{Registers}
+use Rattle.pwm.specs.declared.Wave.{Wave}
+use Rattle.pwm.specs.declared.Pwm.{Pwm}
+use Rattle.pwm.specs.Pwm.{inv, stepped}
+
+abbrev pub at : ℕ → ℕ → Bool → Wave
+at counter remainder output = record { counter = counter; remainder = remainder; output = output }
+
+-- the wave with r ticks left over
+abbrev pub left : ℕ → Wave → Wave
+left r w = at (w .counter) r (w .output)
+
+-- the channel with another wave
+abbrev pub moved : Pwm → Wave → Pwm
+moved p w = record { registers = p .registers; wave = w }
+
+-- s steps
+unfoldable pub often : ℕ → Registers → Wave → Wave
+often zero g w = w
+often (suc s) g w = stepped g (often s g w)
+
+-- s steps, and r ticks left over
+abbrev pub stepsOf : ℕ → ℕ → Registers → Wave → Wave
+stepsOf s r g w = left r (often s g w)
+
+-- MODE 1: the counter gone up to k, where CMP may lie on the way
+abbrev pub climbed : Registers → ℕ → ℕ → Wave → Wave
+climbed g k r w = at k r (cond (ltb (w .counter) (g .cmp) && leb (g .cmp) k) (inv (g .cnfg)) (w .output))
+
+-- MODE 1: the counter gone to 0, and from there up to k
+abbrev pub wrapped : Registers → ℕ → ℕ → Wave
+wrapped g k r = at k r (cond (leb (g .cmp) k) (inv (g .cnfg)) (not (inv (g .cnfg))))
