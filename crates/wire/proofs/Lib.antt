@@ -1,4 +1,4 @@
 pub mod Numbers
 pub mod Laws
-pub mod Asks
-pub mod Listing
+pub mod Formed
+pub mod Known

@@ -2,9 +2,10 @@
 -- Assumes nothing.
 use Prim.Native.Nat.{ℕ, zero, suc, _+_, _*_, _/_, _%_}
 use mathlib.Core.List.{List, [], _∷_}
-use mathlib.Core.Bool.{cond}
-use lib.ListN.{getD, take, drop}
+use mathlib.Core.Bool.{Bool}
+use lib.ListN.{getD}
 use lib.Dec.{eqb}
+use Rattle.fold.specs.Run.{tally}
 
 abbrev pub byte : List ℕ → ℕ → ℕ
 byte s i = getD s i 0
@@ -19,12 +20,9 @@ abbrev pub leBytes : ℕ → ℕ → List ℕ
 leBytes zero v = []
 leBytes (suc n) v = v % 256 ∷ leBytes n (v / 256)
 
--- the first n records of 16 bytes each
-unfoldable pub records : ℕ → List ℕ → List (List ℕ)
-records zero s = []
-records (suc n) s = take 16 s ∷ records n (drop 16 s)
+-- "the records whose first byte is 2", and how many they are
+abbrev pub asks : List ℕ → Bool
+asks r = eqb (byte r 0) 2
 
--- "the records whose first byte is 2": how many they are
-unfoldable pub readsIn : List (List ℕ) → ℕ
-readsIn [] = 0
-readsIn (r ∷ rs) = cond (eqb (byte r 0) 2) 1 0 + readsIn rs
+abbrev pub readsIn : List (List ℕ) → ℕ
+readsIn rs = tally asks rs
