@@ -1,4 +1,4 @@
-mod Arms
-mod Sweep
-pub mod Whole
+pub mod Arms
+pub mod Turns
+pub mod Sweep
 pub mod Proved

@@ -1,17 +1,24 @@
--- The records that go over all channels of a kind: at each turn the first i have been gone over.
+-- The records that go over all channels of a kind: before each channel the first i have been gone over.
 -- Assumes nothing.
-use mathlib.Core.Path.{_≡_, sym, ap, _∙_}
-use mathlib.Core.List.{List, map}
-use Prim.Native.Nat.{ℕ, _+_, _≤_, _<_}
+use mathlib.Core.Path.{_≡_, refl, sym, ap, _∙_}
+use mathlib.Core.List.{List, [], _∷_}
+use Prim.Native.Nat.{ℕ, zero, suc, _+_, _*_, _/_, _%_, _^_, _≤_, _<_}
+use mathlib.Core.Bool.{Bool, cond}
 use native.Mathlib.Omega.{arith}
+use native.Mathlib.Nat.{div-div-eq-div-mul, pow-suc}
+use lib.Dec.{eqb}
+use borrow.Author.Tests.{eq-eqb, ne-eqb}
 use lib.ListN.{length, getD, set}
-use Rattle.laws.proofs.Each.{front, front-none, front-more, front-all, long-field}
+use Rattle.laws.proofs.Each.{front, front-none, front-more, front-all}
 use Rattle.encoder.specs.declared.Encoder.{Encoder}
 use Rattle.encoder.specs.Encoder as encoder
 use Rattle.pwm.specs.declared.Pwm.{Pwm}
 use Rattle.pwm.specs.Pwm as pwm
+use Rattle.select.specs.Select.{pwmRouted}
+use Rattle.select.specs.How.{ones}
+use Rattle.select.proofs.Routes.{routed-bit}
 use Rattle.bank.specs.declared.Bank.{Bank}
-use Rattle.bank.specs.Bank.{reroute, rerouted, tickRouted, ticked}
+use Rattle.bank.specs.Bank.{reroute, onSelect, tickRouted, onTicks}
 
 abbrev pub with-encoders : Bank → List Encoder → Bank
 with-encoders b l = record { select = b .select; encoders = l; pwms = b .pwms; i2c = b .i2c }
@@ -23,27 +30,61 @@ module _ (v : ℕ) (b : Bank) where
   pub rerouted-none : b ≡ with-encoders b (front (reroute (b .select) v) 0 0 (b .encoders))
   rerouted-none = ap (with-encoders b) (sym (front-none (reroute (b .select) v) (b .encoders)))
 
-  module _ {Y : Type 0} (f : Encoder → Y) (known : length (map f (b .encoders)) ≡ 10) (x : Bank) (i : ℕ)
+  module _ (ten : length (b .encoders) ≡ 10) (x : Bank) (i : ℕ)
       (here : x ≡ with-encoders b (front (reroute (b .select) v) 0 i (b .encoders))) where
     pub rerouted-more : (r : Encoder) → i < 10 → r ≡ reroute (b .select) v i (getD (x .encoders) i encoder.fresh)
         → with-encoders x (set (x .encoders) i r) ≡ with-encoders b (front (reroute (b .select) v) 0 (i + 1) (b .encoders))
     rerouted-more r h q =
-        rw (q, here) (ap (with-encoders b) (front-more (reroute (b .select) v) encoder.fresh (b .encoders) i (omega (arith, long-field _ _ f (b .encoders) 10 known))))
+        rw (q, here) (ap (with-encoders b) (front-more (reroute (b .select) v) encoder.fresh (b .encoders) i (omega (arith, ten))))
 
-    pub rerouted-all : i ≤ 10 → 10 ≤ i → _≡_ {A = Bank} (record { select = v; encoders = x .encoders; pwms = x .pwms; i2c = x .i2c }) (rerouted v b)
+    pub rerouted-all : i ≤ 10 → 10 ≤ i → _≡_ {A = Bank} (record { select = v; encoders = x .encoders; pwms = x .pwms; i2c = x .i2c }) (onSelect v b)
     rerouted-all h k =
-        rw here (ap {B = Bank} (λ (l : List Encoder). record { select = v; encoders = l; pwms = b .pwms; i2c = b .i2c }) (front-all (reroute (b .select) v) (b .encoders) i 10 (long-field _ _ f (b .encoders) 10 known) h k))
+        rw here (ap {B = Bank} (λ (l : List Encoder). record { select = v; encoders = l; pwms = b .pwms; i2c = b .i2c }) (front-all (reroute (b .select) v) (b .encoders) i 10 ten h k))
+
+fourfold : (i : ℕ) → 2 ^ (2 * i) * 4 ≡ 2 ^ (2 * (i + 1))
+fourfold i =
+    let e : 2 * (i + 1) ≡ suc (suc (2 * i)) = omega arith in
+    rw (e, pow-suc 2 (suc (2 * i)), pow-suc 2 (2 * i)) (omega arith)
+
+set-there : (l : List Pwm) (i : ℕ) (d : Pwm) → set l i (getD l i d) ≡ l
+set-there [] i d = refl
+set-there (x ∷ l) zero d = refl
+set-there (x ∷ l) (suc i) d = ap (λ (m : List Pwm). x ∷ m) (set-there l i d)
 
 module _ (t : ℕ) (b : Bank) where
+  pub pins-all : (pins : ℕ) → pins ≡ ones (b .select) → pins ≡ ones (b .select) / 2 ^ (2 * 0)
+  pins-all pins e = omega arith
+
   pub ticked-none : b ≡ with-pwms b (front (tickRouted (b .select) t) 0 0 (b .pwms))
   ticked-none = ap (with-pwms b) (sym (front-none (tickRouted (b .select) t) (b .pwms)))
 
-  module _ {Y : Type 0} (f : Pwm → Y) (known : length (map f (b .pwms)) ≡ 20) (x : Bank) (i : ℕ)
+  module _ (twenty : length (b .pwms) ≡ 20) (x : Bank) (i : ℕ)
       (here : x ≡ with-pwms b (front (tickRouted (b .select) t) 0 i (b .pwms))) where
     pub ticked-more : (r : Pwm) → i < 20 → r ≡ tickRouted (b .select) t i (getD (x .pwms) i pwm.fresh)
         → with-pwms x (set (x .pwms) i r) ≡ with-pwms b (front (tickRouted (b .select) t) 0 (i + 1) (b .pwms))
     ticked-more r h q =
-        rw (q, here) (ap (with-pwms b) (front-more (tickRouted (b .select) t) pwm.fresh (b .pwms) i (omega (arith, long-field _ _ f (b .pwms) 20 known))))
+        rw (q, here) (ap (with-pwms b) (front-more (tickRouted (b .select) t) pwm.fresh (b .pwms) i (omega (arith, twenty))))
 
-    pub ticked-all : i ≤ 20 → 20 ≤ i → x ≡ ticked t b
-    ticked-all h k = here ∙ ap (with-pwms b) (front-all (tickRouted (b .select) t) (b .pwms) i 20 (long-field _ _ f (b .pwms) 20 known) h k)
+    -- a channel that is not routed stays, and one that is ticks, its bit being the first of those left
+    module _ (pins : ℕ) (left : pins ≡ ones (b .select) / 2 ^ (2 * i)) (h : i < 20) where
+      pub pins-next : pins / 4 ≡ ones (b .select) / 2 ^ (2 * (i + 1))
+      pins-next = ap (λ (n : ℕ). n / 4) left ∙ div-div-eq-div-mul (ones (b .select)) (2 ^ (2 * i)) 4 ∙ ap (λ (n : ℕ). ones (b .select) / n) (fourfold i)
+
+      routed : pwmRouted (b .select) i ≡ eqb (pins % 2) 1
+      routed = rw left (routed-bit (b .select) i h)
+
+      pub ticked-skip : (pins % 2 ≡ 1 → ⊥) → x ≡ with-pwms b (front (tickRouted (b .select) t) 0 (i + 1) (b .pwms))
+      ticked-skip d =
+          let l = front (tickRouted (b .select) t) 0 i (b .pwms) in
+          let p = getD l i pwm.fresh in
+          let stays : p ≡ tickRouted (b .select) t i p = sym (ap (λ (y : Bool). cond y (pwm.onTicks t p) p) (routed ∙ ne-eqb _ _ d)) in
+          here
+          ∙ ap (with-pwms b)
+          (sym (set-there l i pwm.fresh) ∙ ap (set l i) stays ∙ front-more (tickRouted (b .select) t) pwm.fresh (b .pwms) i (omega (arith, twenty)))
+
+      pub ticked-one : (r : Pwm) → pins % 2 ≡ 1 → r ≡ pwm.onTicks t (getD (x .pwms) i pwm.fresh)
+          → with-pwms x (set (x .pwms) i r) ≡ with-pwms b (front (tickRouted (b .select) t) 0 (i + 1) (b .pwms))
+      ticked-one r e q = ticked-more r h (q ∙ sym (ap (λ (y : Bool). cond y (pwm.onTicks t (getD (x .pwms) i pwm.fresh)) (getD (x .pwms) i pwm.fresh)) (routed ∙ eq-eqb _ _ e)))
+
+    pub ticked-all : i ≤ 20 → 20 ≤ i → x ≡ onTicks t b
+    ticked-all h k = here ∙ ap (with-pwms b) (front-all (tickRouted (b .select) t) (b .pwms) i 20 twenty h k)

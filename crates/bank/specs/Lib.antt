@@ -1,3 +1,3 @@
 pub mod Bank
-pub mod Parts
+pub mod How
 pub mod Facts

@@ -1,10 +1,6 @@
-mod Output
-pub mod Turns
-pub mod Going
+mod Ways
+mod Reached
 mod Whole
-pub mod Small
-mod Tally
-mod Stream
-mod Room
+pub mod Numbers
 mod Notes
 pub mod Proved

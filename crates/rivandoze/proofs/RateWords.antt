@@ -1,6 +1,6 @@
 -- The parts of an answer about rates fit their places, so that they are read back, and the number is the only one. Assumes nothing.
-use mathlib.Core.Path.{_≡_, refl, sym, _∙_}
-use mathlib.Core.Bool.{Bool, true, false, cond}
+use mathlib.Core.Path.{_≡_, refl, sym, ap, _∙_}
+use mathlib.Core.Bool.{Bool, true, false, cond, _||_}
 use Prim.Native.Nat.{ℕ, _^_, _≤_, _<_}
 use native.Mathlib.Nat.{mul-le-mul}
 use native.Mathlib.Omega.{arith}
@@ -11,97 +11,79 @@ use Rattle.rate.specs.declared.Found.{Found}
 use Rattle.rate.specs.declared.Found.the-variants.{Pair, Refused}
 use Rattle.rate.specs.declared.Rated.{Rated}
 use Rattle.rate.specs.declared.Rated.the-variants.{Ratio, Unset}
-use Rattle.rate.specs.Rate.{pwm, spi, Outcome, outside, loose, none, pair, Answer, refusalOf, choiceOf, xOf, period, rateOf, unsetOf, periodOf, clockOf}
-use Rattle.rate.specs.Settled.{Settled}
+use Rattle.rate.specs.Rate.{pwm, spi, Outcome, outside, loose, none, pair, Answer, foundNumbers, period, rateOf, ratedNumbers}
+use Rattle.rate.specs.How.{Fair}
 use Rattle.rate.proofs.Dividers.{most}
-use Rattle.rate.proofs.Answers.{settled-pwm, settled-spi}
-use Rattle.rivandoze.specs.Refusal.{refusalIn}
-use Rattle.rivandoze.specs.RateWords.{choiceIn, xIn, FindWord, RateWord, findWord, rateWord, Exact, WordsSettled}
+use Rattle.rate.proofs.Answers.{fair-pwm, fair-spi, same-numbers}
+use Rattle.rivandoze.specs.RateWords.{FindWord, RateWord, findWord, rateWord, Exact, WordsSettled}
+
+triple : {a b c d e f : ℕ} → a ≡ d → b ≡ e → c ≡ f → _≡_ {A = ℕ × ℕ × ℕ} (a, b, c) (d, e, f)
+triple p q r = rw (p, q, r)
 
 pub exact : Exact
 exact =
     record {
-      find-refusal = λ n c x h l s. omega arith;
-      find-choice = λ n c x h l s. omega arith;
-      find-x = λ n c x h l s. omega arith;
-      find-rest = λ n c x h l s. omega arith;
-      find-whole = λ w h. omega arith;
-      rate-refusal = λ n p k h l. omega arith;
-      rate-period = λ n p k h l. omega arith;
-      rate-clock = λ n p k h l. omega arith;
-      rate-whole = λ w. omega arith;
+      found = λ n c x h l s. triple (omega arith) (omega arith) (omega arith);
+      found-rest = λ n c x h l s. omega arith;
+      found-whole = λ w h. omega arith;
+      rated = λ n k p h l. triple (omega arith) (omega arith) (omega arith);
+      rated-whole = λ w. omega arith;
     }
 
+-- the parts of an answer to a request fit
+record Fits (v : ℕ × ℕ × ℕ) : Type 0 where
+  refusal : v .0 < 2 ^ 8
+  choice : v .1 < 2 ^ 8
+  x : v .2 < 2 ^ 16
+
 module _ (u : Rule) (f tol : ℕ) where
-  refusal-fits : (n c x : ℕ) → Outcome u f tol n c x → n < 2 ^ 8
-  refusal-fits n c x (outside h a) = omega arith
-  refusal-fits n c x (loose h a s) = omega arith
-  refusal-fits n c x (none h a s e) = omega arith
-  refusal-fits n c x (pair h a s w) = omega arith
+  fits : {v : ℕ × ℕ × ℕ} → Outcome u f tol v → Fits v
+  fits (outside a) = omega arith
+  fits (loose a s) = omega arith
+  fits (none a s e) = omega arith
+  fits (pair a s w) = omega (arith, w .pair)
 
-  pair-fits : (n c x : ℕ) → Outcome u f tol n c x → (c < 2 ^ 8) × (x < 2 ^ 16)
-  pair-fits n c x (outside h a) = omega arith
-  pair-fits n c x (loose h a s) = omega arith
-  pair-fits n c x (none h a s e) = omega arith
-  pair-fits n c x (pair h a s w) = omega (arith, w .pair .most, w .pair .short)
+  pub choice-fits : (r : Found) → Answer u f tol r → foundNumbers r .1 < 256
+  choice-fits r h = fits h .choice
 
-  pub choice-fits : (r : Found) → Answer u f tol r → choiceOf r < 256
-  choice-fits r h = pair-fits (refusalOf r) (choiceOf r) (xOf r) h .0
-
-  pub x-fits : (r : Found) → Answer u f tol r → xOf r < 65_536
-  x-fits r h = pair-fits (refusalOf r) (choiceOf r) (xOf r) h .1
+  pub x-fits : (r : Found) → Answer u f tol r → foundNumbers r .2 < 65_536
+  x-fits r h = fits h .x
 
   -- the number of an answer says the answer
-  pub found-word : (r : Found) (w : ℕ) → Answer u f tol r → w ≡ findWord (refusalOf r) (choiceOf r) (xOf r) → FindWord u f tol w
+  pub found-word : (r : Found) (w : ℕ) → Answer u f tol r → w ≡ findWord (foundNumbers r) → FindWord u f tol w
   found-word r w h e =
+      let v = foundNumbers r in
+      let k = fits h in
       record {
-        answer = rw (e, exact .find-refusal n c x hn hc hx, exact .find-choice n c x hn hc hx, exact .find-x n c x hn hc hx) h;
-        rest = rw e (exact .find-rest n c x hn hc hx);
+        answer = rw (e, exact .found (v .0) (v .1) (v .2) (k .refusal) (k .choice) (k .x)) h;
+        rest = rw e (exact .found-rest (v .0) (v .1) (v .2) (k .refusal) (k .choice) (k .x));
       }
-    where
-      n : ℕ
-      n = refusalOf r
-
-      c : ℕ
-      c = choiceOf r
-
-      x : ℕ
-      x = xOf r
-
-      hn : n < 2 ^ 8
-      hn = refusal-fits n c x h
-
-      hc : c < 2 ^ 8
-      hc = pair-fits n c x h .0
-
-      hx : x < 2 ^ 16
-      hx = pair-fits n c x h .1
 
 -- the arms of the code
 module _ (r : Found) (c x : ℕ) (e : r ≡ Pair c x) where
-  pub choice-part : choiceOf r < 256 → c < 256
+  pub choice-part : foundNumbers r .1 < 256 → c < 256
   choice-part h = rw e at h
 
-  pub x-part : xOf r < 65_536 → x < 65_536
+  pub x-part : foundNumbers r .2 < 65_536 → x < 65_536
   x-part h = rw e at h
 
-  pub pair-part : (w : ℕ) → w ≡ findWord 0 c x → w ≡ findWord (refusalOf r) (choiceOf r) (xOf r)
+  pub pair-part : (w : ℕ) → w ≡ findWord (0, c, x) → w ≡ findWord (foundNumbers r)
   pair-part w h = rw e h
 
-pub refused-part : (r : Found) (n : ℕ) → r ≡ Refused n → n ≡ findWord (refusalOf r) (choiceOf r) (xOf r)
+pub refused-part : (r : Found) (n : ℕ) → r ≡ Refused n → n ≡ findWord (foundNumbers r)
 refused-part r n e = rw e (omega arith)
 
 module _ (r : Rated) (k p : ℕ) (e : r ≡ Ratio k p) where
-  pub period-part : periodOf r < 2 ^ 24 → p < 2 ^ 24
+  pub period-part : ratedNumbers r .2 < 2 ^ 24 → p < 2 ^ 24
   period-part h = rw e at h
 
-  pub clock-part : clockOf r < 2 ^ 32 → k < 2 ^ 32
+  pub clock-part : ratedNumbers r .1 < 2 ^ 32 → k < 2 ^ 32
   clock-part h = rw e at h
 
-  pub ratio-part : (w : ℕ) → w ≡ rateWord 0 p k → w ≡ rateWord (unsetOf r) (periodOf r) (clockOf r)
+  pub ratio-part : (w : ℕ) → w ≡ rateWord (0, k, p) → w ≡ rateWord (ratedNumbers r)
   ratio-part w h = rw e h
 
-pub unset-part : (r : Rated) (n : ℕ) → r ≡ Unset n → n ≡ rateWord (unsetOf r) (periodOf r) (clockOf r)
+pub unset-part : (r : Rated) (n : ℕ) → r ≡ Unset n → n ≡ rateWord (ratedNumbers r)
 unset-part r n e = rw e (omega arith)
 
 -- the rules whose clock and periods fit
@@ -117,57 +99,47 @@ narrow-spi = omega arith
 
 -- a rate that registers give fits
 module _ (u : Rule) (narrow : Narrow u) (c x : ℕ) where
+  record Rates (v : ℕ × ℕ × ℕ) : Type 0 where
+    refusal : v .0 < 2 ^ 8
+    clock : v .1 < 2 ^ 32
+    period : v .2 < 2 ^ 24
+
   period-small : 1 ≤ c → c ≤ 7 → x ≤ 65_535 → period u c x ≤ 8_388_608
   period-small h l s = mul-le-mul {n₂ = 128} {m₂ = 65_536} (mul-le-mul {n₂ = 2} {m₂ = 64} (narrow .twice) (most c h l)) (omega arith)
 
-  rated-fits : (unsetOf (rateOf u c x) < 2 ^ 8) × (periodOf (rateOf u c x) < 2 ^ 24) × (clockOf (rateOf u c x) < 2 ^ 32)
+  rated-fits : Rates (ratedNumbers (rateOf u c x))
   rated-fits = by (ltb c 1) (ltb 7 c) (ltb 65_535 x) refl refl refl
     where
-      at : Bool → Bool → Bool → Rated
-      at s t v = cond s (Unset 15) (cond t (Unset 15) (cond v (Unset 15) (Ratio (u .clock) (period u c x))))
-
       by : (s t v : Bool) → ltb c 1 ≡ s → ltb 7 c ≡ t → ltb 65_535 x ≡ v →
-          (unsetOf (at s t v) < 2 ^ 8) × (periodOf (at s t v) < 2 ^ 24) × (clockOf (at s t v) < 2 ^ 32)
+          Rates (ratedNumbers (cond (s || (t || v)) (Unset 15) (Ratio (u .clock) (period u c x))))
       by true t v es et ev = omega arith
       by false true v es et ev = omega arith
       by false false true es et ev = omega arith
       by false false false es et ev =
           let h = period-small (ltb-false c 1 es) (ltb-false 7 c et) (ltb-false 65_535 x ev) in
-          (omega arith, omega arith, narrow .clock)
+          record { refusal = omega arith; clock = narrow .clock; period = omega arith }
 
-  pub period-fits : (r : Rated) → r ≡ rateOf u c x → periodOf r < 2 ^ 24
-  period-fits r e = rw e (rated-fits .1)
+  pub period-fits : (r : Rated) → r ≡ rateOf u c x → ratedNumbers r .2 < 2 ^ 24
+  period-fits r e = rw e (rated-fits .period)
 
-  pub clock-fits : (r : Rated) → r ≡ rateOf u c x → clockOf r < 2 ^ 32
-  clock-fits r e = rw e (rated-fits .2)
+  pub clock-fits : (r : Rated) → r ≡ rateOf u c x → ratedNumbers r .1 < 2 ^ 32
+  clock-fits r e = rw e (rated-fits .clock)
 
-  pub rated-word : (r : Rated) (w : ℕ) → r ≡ rateOf u c x → w ≡ rateWord (unsetOf r) (periodOf r) (clockOf r) → RateWord u c x w
+  pub rated-word : (r : Rated) (w : ℕ) → r ≡ rateOf u c x → w ≡ rateWord (ratedNumbers r) → RateWord u c x w
   rated-word r w e l =
-      let z = rateOf u c x in
-      let q : w ≡ rateWord (unsetOf z) (periodOf z) (clockOf z) = rw e at l in
-      record {
-        refusal = rw q (exact .rate-refusal (unsetOf z) (periodOf z) (clockOf z) (rated-fits .0) (rated-fits .1));
-        period = rw q (exact .rate-period (unsetOf z) (periodOf z) (clockOf z) (rated-fits .0) (rated-fits .1));
-        clock = rw q (exact .rate-clock (unsetOf z) (periodOf z) (clockOf z) (rated-fits .0) (rated-fits .1));
-      }
+      let v = ratedNumbers (rateOf u c x) in
+      rw (l, e) (exact .rated (v .0) (v .1) (v .2) (rated-fits .refusal) (rated-fits .period))
 
--- numbers with the same parts are the same
-parts : (j : ℕ → ℕ → ℕ → ℕ) (v w a b c d e f : ℕ) → v ≡ j a b c → w ≡ j d e f → a ≡ d → b ≡ e → c ≡ f → v ≡ w
-parts j v w a b c d e f p q h l s = cc
-
-settled : (u : Rule) → Settled u → WordsSettled u
-settled u one =
+settled : (u : Rule) → Fair u → WordsSettled u
+settled u fair =
     record {
       found = λ f tol v w h l.
-          let e = one .same-numbers f tol (refusalIn v) (choiceIn v) (xIn v) (refusalIn w) (choiceIn w) (xIn w) (h .answer) (l .answer) in
-          parts findWord v w _ _ _ _ _ _ (exact .find-whole v (h .rest)) (exact .find-whole w (l .rest)) (e .0) (e .1) (e .2);
-      rated = λ c x v w h l.
-          parts rateWord v w _ _ _ _ _ _ (exact .rate-whole v) (exact .rate-whole w)
-          (h .refusal ∙ sym (l .refusal)) (h .period ∙ sym (l .period)) (h .clock ∙ sym (l .clock));
+          sym (exact .found-whole v (h .rest)) ∙ ap findWord (same-numbers u fair f tol (h .answer) (l .answer)) ∙ exact .found-whole w (l .rest);
+      rated = λ c x v w h l. sym (exact .rated-whole v) ∙ ap rateWord (h ∙ sym l) ∙ exact .rated-whole w;
     }
 
 pub words-pwm : WordsSettled pwm
-words-pwm = settled pwm settled-pwm
+words-pwm = settled pwm fair-pwm
 
 pub words-spi : WordsSettled spi
-words-spi = settled spi settled-spi
+words-spi = settled spi fair-spi

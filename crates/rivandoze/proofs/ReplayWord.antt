@@ -2,12 +2,14 @@
 use mathlib.Core.Path.{_≡_, ap, _∙_}
 use Prim.Native.Nat.{ℕ, _/_, _%_}
 use native.Mathlib.Omega.{arith}
-use Rattle.replay.specs.declared.Stop.{Stop}
-use Rattle.replay.specs.Replay.{Run, stopOf}
+use Rattle.fold.specs.declared.Stop.{Stop}
+use Rattle.fold.specs.Run.{Run}
+use Rattle.fold.specs.Output.{stopOf}
+use Rattle.bank.specs.declared.Bank.{Bank}
 use Rattle.rivandoze.specs.Refusal.{refusalIn}
 use Rattle.rivandoze.specs.ReplayWord.{appliedIn, ReplayWord, ReplaySettled}
 
-pub worded : (r : Run) (s : Stop) (w : ℕ) → s ≡ stopOf r → (refusalIn w ≡ s .refused) × (appliedIn w ≡ s .applied) → ReplayWord r w
+pub worded : (r : Run Bank ℕ) (s : Stop) (w : ℕ) → s ≡ stopOf r → (refusalIn w ≡ s .refused) × (appliedIn w ≡ s .applied) → ReplayWord r w
 unfolding stopOf
 worded r s w e p = record { refusal = p .0 ∙ ap (λ (x : Stop). x .refused) e; applied = p .1 ∙ ap (λ (x : Stop). x .applied) e }
 

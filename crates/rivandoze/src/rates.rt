@@ -1,21 +1,21 @@
 // The rate finder. Each answer is one number, whose low byte is the refusal, 0 if none.
 ghost use mathlib.Core.Path.{_≡_};
 ghost use Prim.Native.Nat.{_<_, _^_};
-ghost use Rattle.rate.specs.Rate.{pwm, spi, refusalOf, choiceOf, xOf, unsetOf, periodOf, clockOf};
+ghost use Rattle.rate.specs.Rate.{pwm, spi, foundNumbers, ratedNumbers};
 ghost use Rattle.rivandoze.specs.RateWords.{findWord, rateWord, FindWord, RateWord};
 use rate::Found;
 use rate::Rated;
 
 fn pair_word(choice: u64, x: u64) -> u64
     requires { ⌜ (choice < 256) × (x < 65_536) ⌝ }
-    ensures { λ r. ⌜ r ≡ findWord 0 choice x ⌝ }
+    ensures { λ r. ⌜ r ≡ findWord (0, choice, x) ⌝ }
 {
     256 * choice + 65_536 * x
 }
 
 fn find_word(found: Found) -> u64
-    requires { ⌜ (choiceOf found < 256) × (xOf found < 65_536) ⌝ }
-    ensures { λ r. ⌜ r ≡ findWord (refusalOf found) (choiceOf found) (xOf found) ⌝ }
+    requires { ⌜ (foundNumbers found .1 < 256) × (foundNumbers found .2 < 65_536) ⌝ }
+    ensures { λ r. ⌜ r ≡ findWord (foundNumbers found) ⌝ }
 {
     match found {
         Found::Pair { choice, x } => pair_word(choice, x),
@@ -25,14 +25,14 @@ fn find_word(found: Found) -> u64
 
 fn ratio_word(clock: u64, period: u64) -> u64
     requires { ⌜ (period < 2 ^ 24) × (clock < 2 ^ 32) ⌝ }
-    ensures { λ r. ⌜ r ≡ rateWord 0 period clock ⌝ }
+    ensures { λ r. ⌜ r ≡ rateWord (0, clock, period) ⌝ }
 {
     256 * period + 4_294_967_296 * clock
 }
 
 fn rate_word(rated: Rated) -> u64
-    requires { ⌜ (periodOf rated < 2 ^ 24) × (clockOf rated < 2 ^ 32) ⌝ }
-    ensures { λ r. ⌜ r ≡ rateWord (unsetOf rated) (periodOf rated) (clockOf rated) ⌝ }
+    requires { ⌜ (ratedNumbers rated .2 < 2 ^ 24) × (ratedNumbers rated .1 < 2 ^ 32) ⌝ }
+    ensures { λ r. ⌜ r ≡ rateWord (ratedNumbers rated) ⌝ }
 {
     match rated {
         Rated::Ratio { clock, period } => ratio_word(clock, period),

@@ -2,10 +2,10 @@
 ghost use mathlib.Core.Path.{_≡_};
 ghost use Prim.Native.Nat.{_/_, _<_};
 ghost use lib.ListN.{length};
-ghost use Rattle.replay.specs.Replay.{replayOf, outputOf};
+ghost use Rattle.replay.specs.Replay.{replayOf, written};
 ghost use Rattle.rivandoze.specs.Refusal.{refusalIn};
 ghost use Rattle.rivandoze.specs.ReplayWord.{appliedIn, ReplayWord};
-use replay::Stop;
+use fold::Stop;
 
 fn replay_word(s: Stop) -> u64
     requires { ⌜ s .applied < 2048 ⌝ }
@@ -17,7 +17,7 @@ fn replay_word(s: Stop) -> u64
 #[no_mangle]
 pub extern "C" fn rvz_replay(log: &[u8], out: &mut [u8]) -> u64
     ensures { λ r. ⌜ ReplayWord (replayOf (now (log .entry)) (length (now (out .entry)))) r ⌝ }
-    ensures { λ _. ⌜ now (out .exit) ≡ outputOf (replayOf (now (log .entry)) (length (now (out .entry)))) (now (out .entry)) ⌝ }
+    ensures { λ _. ⌜ now (out .exit) ≡ written (replayOf (now (log .entry)) (length (now (out .entry)))) (now (out .entry)) ⌝ }
 {
     let s = replay::replay(log, out);
     replay_word(s)

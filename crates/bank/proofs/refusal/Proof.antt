@@ -1,5 +1,6 @@
-use Rattle.bank.specs.Bank.{refusalOf}
-use Rattle.bank.proofs.Arms.{refusal-arm, refusal-encoder, refusal-pwm, refusal-i2c}
+use mathlib.Core.Path.{refl}
+use Rattle.bank.specs.How.{refusalOf}
+use Rattle.bank.proofs.Arms.{refusal-arm, refusal-routed, refusal-go}
 use borrow.Author.Needs.{needs}
 use Rattle.bank.proofs.refusal.Statement.{statement}
 use Rattle.bank.proofs.refusal.Tie as tie
@@ -21,8 +22,40 @@ refusal-spec =
     (λ c κs. search needs)
     (λ c κs. search needs)
     (λ c. search needs)
+    (λ c κs. search needs)
+    (λ c κs. search needs)
+    (λ c. search needs)
+    (λ c κs. search needs)
+    (λ c κs. search needs)
+    (λ c. search needs)
+    (λ c κs. search needs)
+    (λ c κs. search needs)
+    (λ c. search needs)
+    (λ c κs. search needs)
+    (λ c κs. search needs)
+    (λ c. search needs)
+    (λ c κs. search needs)
+    (λ c κs. search needs)
+    (λ c. search needs)
+    (λ c. search needs)
+    (λ c. search needs)
+    (λ c. search needs)
+    (λ c. search needs)
+    (λ c κs. search needs)
+    (λ c κs. search needs)
+    (λ c. search needs)
     (λ c. search refusal-arm)
-    (λ c. search refusal-encoder)
-    (λ c. search refusal-pwm)
-    (λ c. search refusal-i2c)
+    (λ c. search (refusal-routed, refl))
+    (λ c. search (refusal-routed, refl))
+    (λ c. search (refusal-routed, refl))
+    (λ c. search (refusal-routed, refl))
+    (λ c. search (refusal-routed, refl))
+    (λ c. search (refusal-routed, refl))
+    (λ c. search (refusal-routed, refl))
+    (λ c. search (refusal-go, refl))
+    (λ c. search refusal-arm)
+    (λ c. search refusal-arm)
+    (λ c. search refusal-arm)
+    (λ c. search refusal-arm)
+    (λ c. search (refusal-routed, refl))
     (λ c. search refusal-arm))

@@ -1,6 +1,6 @@
 -- `rivandoze::replays::rvz_replay` meets its contract. Assumes nothing.
 use borrow.Author.Needs.{needs}
-use Rattle.replay.proofs.Small.{small}
+use Rattle.replay.proofs.Numbers.{small}
 use Rattle.rivandoze.proofs.ReplayWord.{worded}
 use Rattle.rivandoze.proofs.replays.rvz_replay.Statement.{statement}
 use Rattle.rivandoze.proofs.replays.rvz_replay.Tie as tie

@@ -1,0 +1,7 @@
+use Rattle.bank.proofs.Arms.{go-passes, go-stops}
+use borrow.Author.Needs.{needs}
+use Rattle.bank.proofs.go_refusal.Statement.{statement}
+use Rattle.bank.proofs.go_refusal.Tie as tie
+
+pub go-refusal-spec : {M : Type 1} → statement M
+go-refusal-spec = tie.close (tie.spec (λ c κs. search needs) (λ c. search go-passes) (λ c. search go-stops) (λ c. search needs))
