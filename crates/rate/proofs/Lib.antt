@@ -1,7 +1,7 @@
 -- Laws that belong to no one function.
 pub mod Dividers
 pub mod Order
-pub mod Places
+pub mod Sides
 pub mod Fits
 pub mod Answers
 pub mod Sums

@@ -2,4 +2,4 @@
 pub mod Rate
 pub mod Settled
 pub mod Sums
-pub mod Near
+pub mod How

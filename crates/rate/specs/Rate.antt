@@ -1,7 +1,7 @@
 -- Paper 01, "Rates" and the numbers of refusal 12 to 15, in the paper's order. "PWM and SPI are asked by separate calls": a rule u has the
 -- numbers of one of them. A pair is a divider choice c and X. Assumes nothing.
 use mathlib.Core.Path.{_≡_}
-use mathlib.Core.Bool.{cond}
+use mathlib.Core.Bool.{cond, _||_}
 use Prim.Native.Nat.{ℕ, _+_, _-_, _*_, _≤_, _<_}
 use lib.Dec.{ltb}
 use Rattle.divider.specs.Divider.{dividerOf}
@@ -27,48 +27,26 @@ abbrev pub period : Rule → ℕ → ℕ → ℕ
 period u c x = u .base * dividerOf c * (x + 1)
 
 -- "X is 0 to 65,535", "Divider choices 1 to 7 mean N = 1 to 64 as for CS, for SPI too"
-pub record IsPair (c x : ℕ) : Type 0 where
-  pub some : 1 ≤ c
-  pub most : c ≤ 7
-  pub short : x ≤ 65_535
+abbrev pub IsPair : ℕ → ℕ → Type 0
+IsPair c x = (1 ≤ c) × (c ≤ 7) × (x ≤ 65_535)
 
 -- "From registers the rate is the fraction 40,000,000/P", "with no range check but 15": a "divider choice 0 or above 7, or X above 65,535"
 abbrev pub rateOf : Rule → ℕ → ℕ → Rated
-rateOf u c x =
-    cond (ltb c 1) (Unset 15)
-    (cond (ltb 7 c) (Unset 15) (cond (ltb 65_535 x) (Unset 15) (Ratio (u .clock) (period u c x))))
+rateOf u c x = cond (ltb c 1 || (ltb 7 c || ltb 65_535 x)) (Unset 15) (Ratio (u .clock) (period u c x))
 
 -- its numbers: the refusal, 0 for none, and the fraction's two, 0 beside a refusal
-abbrev pub unsetOf : Rated → ℕ
-unsetOf (Ratio k p) = 0
-unsetOf (Unset n) = n
-
-abbrev pub clockOf : Rated → ℕ
-clockOf (Ratio k p) = k
-clockOf (Unset n) = 0
-
-abbrev pub periodOf : Rated → ℕ
-periodOf (Ratio k p) = p
-periodOf (Unset n) = 0
+abbrev pub ratedNumbers : Rated → ℕ × ℕ × ℕ
+ratedNumbers (Ratio k p) = (0, k, p)
+ratedNumbers (Unset n) = (n, 0, 0)
 
 -- |a - b|
 abbrev pub apart : ℕ → ℕ → ℕ
 apart a b = (a - b) + (b - a)
 
--- fractions, and their order by crossing: a / b ≤ c / d where ad ≤ cb
-pub record Fraction : Type 0 where
-  pub top : ℕ
-  pub under : ℕ
-
-abbrev pub AtMost : Fraction → Fraction → Type 0
-AtMost v w = v .top * w .under ≤ w .top * v .under
-
-abbrev pub Same : Fraction → Fraction → Type 0
-Same v w = v .top * w .under ≡ w .top * v .under
-
--- "the error is |40,000,000/P - f|", with C for the clock's 40,000,000: the fraction |C - fP| / P
-abbrev pub error : ℕ → ℕ → ℕ → Fraction
-error C f P = record { top = apart C (f * P); under = P }
+-- "the error is |40,000,000/P - f|", with C for the clock's 40,000,000. To compare P's error with Q's, both are taken PQ times:
+-- |C/P - f| PQ = |C - fP| Q
+abbrev pub error : ℕ → ℕ → ℕ → ℕ → ℕ
+error C f P Q = apart C (f * P) * Q
 
 -- "within tolerance means 1,000,000 times |40,000,000 - fP| is at most tol times fP"
 abbrev pub Within : ℕ → ℕ → ℕ → ℕ → Type 0
@@ -76,48 +54,36 @@ Within C f tol P = 1_000_000 * apart C (f * P) ≤ tol * (f * P)
 
 -- "Least error wins, then smaller P, then smaller N": P, made with N, loses to Q, made with M, in none of the three
 pub record AsGood (C f P N Q M : ℕ) : Type 0 where
-  pub near : AtMost (error C f P) (error C f Q)
-  pub small : Same (error C f P) (error C f Q) → P ≤ Q
-  pub fine : Same (error C f P) (error C f Q) → P ≡ Q → N ≤ M
+  pub near : error C f P Q ≤ error C f Q P
+  pub small : error C f P Q ≡ error C f Q P → P ≤ Q
+  pub fine : error C f P Q ≡ error C f Q P → P ≡ Q → N ≤ M
 
--- a pair within the tolerance, and as good as each pair within it
+-- a pair within the tolerance, and as good as each pair that there is
 pub record Wins (u : Rule) (f tol c x : ℕ) : Type 0 where
   pub pair : IsPair c x
   pub within : Within (u .clock) f tol (period u c x)
-  pub best : (d y : ℕ) → IsPair d y → Within (u .clock) f tol (period u d y) →
-      AsGood (u .clock) f (period u c x) (dividerOf c) (period u d y) (dividerOf d)
+  pub best : (d y : ℕ) → IsPair d y → AsGood (u .clock) f (period u c x) (dividerOf c) (period u d y) (dividerOf d)
 
 -- no pair within the tolerance, of all that there are
 abbrev pub NoPair : Rule → ℕ → ℕ → Type 0
 NoPair u f tol = (d y : ℕ) → IsPair d y → Within (u .clock) f tol (period u d y) → ⊥
 
--- "Rate refusals return the number alone"
-abbrev pub Alone : ℕ → ℕ → ℕ → ℕ → Type 0
-Alone m n c x = (n ≡ m) × (c ≡ 0) × (x ≡ 0)
-
--- What may be answered to a request, in numbers: n is the refusal, 0 for none. "Checks go in this order; .. for a rate 12, 13, 14".
-pub data Outcome (u : Rule) (f tol n c x : ℕ) : Type 0 where
+-- What may be answered to a request, in numbers: the refusal, 0 for none, the divider choice and X. "Checks go in this order; .. for a rate
+-- 12, 13, 14", "Rate refusals return the number alone".
+pub data Outcome (u : Rule) (f tol : ℕ) : ℕ × ℕ × ℕ → Type 0 where
   -- 12: "rate out of range"
-  outside : Alone 12 n c x → (InRange u f → ⊥) → Outcome u f tol n c x
+  outside : (InRange u f → ⊥) → Outcome u f tol (12, 0, 0)
   -- 13: "tolerance above 1,000,000"
-  loose : Alone 13 n c x → InRange u f → 1_000_000 < tol → Outcome u f tol n c x
+  loose : InRange u f → 1_000_000 < tol → Outcome u f tol (13, 0, 0)
   -- 14: "no pair within tolerance"
-  none : Alone 14 n c x → InRange u f → tol ≤ 1_000_000 → NoPair u f tol → Outcome u f tol n c x
+  none : InRange u f → tol ≤ 1_000_000 → NoPair u f tol → Outcome u f tol (14, 0, 0)
   -- "The pair is answered as divider choice and X"
-  pair : n ≡ 0 → InRange u f → tol ≤ 1_000_000 → Wins u f tol c x → Outcome u f tol n c x
+  pair : {c x : ℕ} → InRange u f → tol ≤ 1_000_000 → Wins u f tol c x → Outcome u f tol (0, c, x)
 
 -- the numbers of an answer
-abbrev pub refusalOf : Found → ℕ
-refusalOf (Pair c x) = 0
-refusalOf (Refused n) = n
-
-abbrev pub choiceOf : Found → ℕ
-choiceOf (Pair c x) = c
-choiceOf (Refused n) = 0
-
-abbrev pub xOf : Found → ℕ
-xOf (Pair c x) = x
-xOf (Refused n) = 0
+abbrev pub foundNumbers : Found → ℕ × ℕ × ℕ
+foundNumbers (Pair c x) = (0, c, x)
+foundNumbers (Refused n) = (n, 0, 0)
 
 abbrev pub Answer : Rule → ℕ → ℕ → Found → Type 0
-Answer u f tol r = Outcome u f tol (refusalOf r) (choiceOf r) (xOf r)
+Answer u f tol r = Outcome u f tol (foundNumbers r)

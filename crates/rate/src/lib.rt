@@ -2,7 +2,7 @@
 ghost use mathlib.Core.Path.{_≡_};
 ghost use Prim.Native.Nat.{_≤_, _<_, _^_};
 ghost use Rattle.rate.specs.Rate.{pwm, spi, rateOf, apart, Answer};
-ghost use Rattle.rate.specs.Near.{Fair, Fit, Placed, Around, coarserOf, nearerOf, pairOf};
+ghost use Rattle.rate.specs.How.{Fair, Fit, Brackets, Around, coarserOf, nearerOf, pairOf};
 use divider::divider;
 
 // The clock's rate and the range of wanted rates, all in one unit, and the factor of a period: what PWM and SPI differ in.
@@ -26,7 +26,7 @@ pub enum Rated {
 
 // A divider choice and its counts next to the wanted rate: `low` counts are at or under the clock's rate, one more is past it. A step is
 // the wanted rate times the ticks of a count.
-struct Place {
+struct Bracket {
     choice: u64,
     step: u64,
     low: u64,
@@ -57,25 +57,25 @@ fn miss(clock: u64, got: u64) -> u64
     }
 }
 
-// The same place by the next coarser divider.
-fn coarser(a: Place) -> Place
+// The bracket of the next coarser divider.
+fn coarser(a: Bracket) -> Bracket
     requires { ⌜ (a .choice < 8) × (a .step < 2 ^ 63) ⌝ }
     ensures { λ r. ⌜ r ≡ coarserOf a ⌝ }
 {
-    Place {
+    Bracket {
         choice: a.choice + 1,
         step: 2 * a.step,
         low: a.low / 2,
     }
 }
 
-// The place by the finest divider whose counts go past the clock's rate.
-fn placed(clock: u64, base: u64, f: u64) -> Place
+// The bracket of the finest divider whose counts go past the clock's rate.
+fn finest(clock: u64, base: u64, f: u64) -> Bracket
     requires { ⌜ Fit clock base f ⌝ }
-    ensures { λ r. ⌜ (Placed clock base f r) × (r .low < 65_536) ⌝ }
+    ensures { λ r. ⌜ (Brackets clock base f r) × (r .low < 65_536) ⌝ }
 {
     let step = f * base;
-    let mut a = Place {
+    let mut a = Bracket {
         choice: 1,
         step: step,
         low: clock / step,
@@ -86,7 +86,7 @@ fn placed(clock: u64, base: u64, f: u64) -> Place
     a
 }
 
-// The nearer of the place's two counts, the fewer where both are as near. Errors are fractions, so each is crossed with the other's count.
+// The nearer of the bracket's two counts, the fewer where both are as near. Errors are fractions, so each is crossed with the other's count.
 fn nearer(clock: u64, step: u64, low: u64) -> u64
     requires { ⌜ Around clock step low ⌝ }
     ensures { λ r. ⌜ r ≡ nearerOf clock step low ⌝ }
@@ -133,7 +133,7 @@ fn find(rule: Rule, f: u64, tol: u64) -> Found
     if 1_000_000 < tol {
         return Found::Refused(13);
     }
-    let a = placed(rule.clock, rule.base, f);
+    let a = finest(rule.clock, rule.base, f);
     let count = nearer(rule.clock, a.step, a.low);
     let got = a.step * count;
     if 1_000_000 * miss(rule.clock, got) <= tol * got {

@@ -1,27 +1,29 @@
--- The sums of specs/Paper.antt, as the crates of the rules have proved them.
+-- The sums of specs/Paper.antt: the rates' by the law of the finder at these numbers, the others computed.
 -- Assumes nothing.
 use mathlib.Core.Path.{refl}
-use Rattle.rate.proofs.Sums.{rate-sums}
-use Rattle.encoder.proofs.Proved as encoder
-use Rattle.pwm.proofs.Proved as pwm
+use Rattle.rate.specs.Rate.{pwm, spi}
+use Rattle.rate.proofs.Answers.{fair-pwm, fair-spi, found-right}
+use Rattle.encoder.specs.Encoder.{flagsOf, statOf}
+use Rattle.pwm.specs.Pwm.{ticked, waited}
 use Rattle.sums.specs.Paper.{PaperSums}
 
 pub paper-sums : PaperSums
+unfolding flagsOf statOf ticked waited
 paper-sums = record {
-  pwm-1000 = rate-sums .pwm-1000;
-  pwm-40 = rate-sums .pwm-40;
-  pwm-610-3 = rate-sums .pwm-610-3;
-  pwm-610-4 = rate-sums .pwm-610-4;
-  spi-4000000 = rate-sums .spi-4000000;
-  spi-40 = rate-sums .spi-40;
-  spi-3650000-86757 = rate-sums .spi-3650000-86757;
-  spi-3650000-86758 = rate-sums .spi-3650000-86758;
-  pins-forward = encoder.sums .forward;
-  pins-backward = encoder.sums .backward;
-  pins-double = encoder.sums .double;
+  pwm-1000 = record { choice = 1; divides = refl; answered = found-right pwm fair-pwm 1_000 0 };
+  pwm-40 = record { choice = 5; divides = refl; answered = found-right pwm fair-pwm 40 0 };
+  pwm-610-3 = found-right pwm fair-pwm 610 3;
+  pwm-610-4 = record { choice = 2; divides = refl; answered = found-right pwm fair-pwm 610 4 };
+  spi-4000000 = record { choice = 1; divides = refl; answered = found-right spi fair-spi 4_000_000 0 };
+  spi-40 = record { choice = 4; divides = refl; answered = found-right spi fair-spi 40 0 };
+  spi-3650000-86757 = found-right spi fair-spi 3_650_000 86_757;
+  spi-3650000-86758 = record { choice = 1; divides = refl; answered = found-right spi fair-spi 3_650_000 86_758 };
+  pins-forward = refl;
+  pins-backward = refl;
+  pins-double = refl;
   pins-error = refl;
-  ticks-counter = pwm.sums .counter;
-  ticks-output = pwm.sums .output;
-  ticks-steps = pwm.sums .steps;
-  ticks-remainder = pwm.sums .remainder;
+  ticks-counter = refl;
+  ticks-output = refl;
+  ticks-steps = refl;
+  ticks-remainder = refl;
 }

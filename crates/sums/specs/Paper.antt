@@ -1,5 +1,6 @@
 -- Paper 01, "Sums to check by hand": "Those marked * are proved, together, as a single fact about the rules", in the paper's order.
 -- Assumes nothing.
+use Prim.Native.Nat.{ℕ}
 use mathlib.Core.Path.{_≡_}
 use mathlib.Core.Bool.{true}
 use mathlib.Core.List.{[], _∷_}
@@ -7,10 +8,20 @@ use lib.IntN.{pos}
 use Rattle.rate.specs.declared.Found.the-variants.{Refused}
 use Rattle.rate.specs.Rate.{pwm, spi, Answer}
 use Rattle.rate.specs.Sums.{Gives}
-use Rattle.encoder.specs.Encoder.{cntrOf}
-use Rattle.encoder.specs.Facts.{played, enabled}
-use Rattle.pwm.specs.Pwm.{ticksOf, levelOf}
-use Rattle.pwm.specs.Facts.{started}
+use Rattle.bits.specs.Bits.{bit}
+use Rattle.encoder.specs.declared.Encoder.{Encoder}
+use Rattle.encoder.specs.Encoder as encoder
+use Rattle.encoder.specs.Facts.{played}
+use Rattle.pwm.specs.declared.Pwm.{Pwm}
+use Rattle.pwm.specs.Pwm as channel
+
+-- a fresh encoder with EN 1
+abbrev pub enabled : Encoder
+enabled = encoder.onCnfg 1 encoder.fresh
+
+-- a fresh PWM channel with a CS, MODE 1, MAX 3, CMP 2
+abbrev pub started : ℕ → Pwm
+started cs = channel.onCmp 2 (channel.onMax 3 (channel.onCnfg 4 (channel.onCs cs channel.fresh)))
 
 pub record PaperSums : Type 0 where
   -- "PWM 1,000, tol 0: N 1, X 39,999"
@@ -29,16 +40,16 @@ pub record PaperSums : Type 0 where
   pub spi-3650000-86757 : Answer spi 3_650_000 86_757 (Refused 14)
   -- "86,758 gives N 1, X 5"
   pub spi-3650000-86758 : Gives spi 3_650_000 86_758 1 5
-  -- "Pins 00, 10, 11, 01, 00: count 4", of a fresh encoder with EN 1. A is bit 0, so 10 is written 1
+  -- "Pins 00, 10, 11, 01, 00: count 4". A is bit 0, so 10 is written 1
   pub pins-forward : played (0 ∷ 1 ∷ 3 ∷ 2 ∷ 0 ∷ []) enabled .count ≡ pos 4
   -- "Backward: CNTR 4,294,967,292"
-  pub pins-backward : cntrOf (played (0 ∷ 2 ∷ 3 ∷ 1 ∷ 0 ∷ []) enabled) ≡ 4_294_967_292
+  pub pins-backward : encoder.cntrOf (played (0 ∷ 2 ∷ 3 ∷ 1 ∷ 0 ∷ []) enabled) ≡ 4_294_967_292
   -- "00, 11: count 0, ERR 1"
   pub pins-double : played (0 ∷ 3 ∷ []) enabled .count ≡ pos 0
-  pub pins-error : played (0 ∷ 3 ∷ []) enabled .flags .err ≡ true
+  pub pins-error : bit 1 (played (0 ∷ 3 ∷ []) enabled .stat) ≡ true
   -- "Fresh PWM, CS 1, MODE 1, MAX 3, CMP 2, 5 ticks: counter 1, output 1"
-  pub ticks-counter : ticksOf 5 (started 1) .counter ≡ 1
-  pub ticks-output : levelOf (ticksOf 5 (started 1)) ≡ 1
+  pub ticks-counter : channel.onTicks 5 (started 1) .wave .counter ≡ 1
+  pub ticks-output : channel.registerOf 5 (channel.onTicks 5 (started 1)) ≡ 1
   -- "CS 2 and 5 ticks: two steps, remainder 1"
-  pub ticks-steps : ticksOf 5 (started 2) .counter ≡ 2
-  pub ticks-remainder : ticksOf 5 (started 2) .remainder ≡ 1
+  pub ticks-steps : channel.onTicks 5 (started 2) .wave .counter ≡ 2
+  pub ticks-remainder : channel.onTicks 5 (started 2) .wave .remainder ≡ 1

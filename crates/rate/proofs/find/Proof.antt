@@ -1,5 +1,4 @@
 -- `rate::find` meets its contract: the nearer count is the pair's, or shows that there is none. Assumes nothing.
-use mathlib.Core.Path.{refl}
 use native.Mathlib.Nat.{le-of-lt}
 use native.Mathlib.Omega.{arith}
 use borrow.Author.Needs.{needs}
@@ -12,9 +11,9 @@ pub find-spec : {M : Type 1} → statement M
 find-spec =
     tie.close
     (tie.spec
-    (λ c. outside (refl, refl, refl) (λ h. omega arith))
-    (λ c. outside (refl, refl, refl) (λ h. omega arith))
-    (λ c. loose (refl, refl, refl) (omega arith) (omega arith))
+    (λ c. outside (λ h. omega arith))
+    (λ c. outside (λ h. omega arith))
+    (λ c. loose (omega arith) (omega arith))
     (λ c κs. search fitting)
     (λ c κs. search needs)
     (λ c. record { fits = search got-fits })

@@ -1,5 +1,6 @@
 -- `rate::pair` meets its contract. Assumes nothing.
 use mathlib.Core.Logic.{⊎-elim}
+use native.Mathlib.Nat.{le-of-lt}
 use borrow.Author.Needs.{needs}
 use Rattle.laws.proofs.Cases.{cases}
 use Rattle.rate.proofs.pair.Statement.{statement}
@@ -12,6 +13,6 @@ pair-spec =
     (λ c. search needs)
     (λ c. search needs)
     (λ c. search needs)
-    (λ c. search cases)
+    (λ c. search (cases, le-of-lt))
     (λ c. search needs)
     (λ c. ⊎-elim (λ w. search cases) (λ w. search cases) (c .if1 .came)))

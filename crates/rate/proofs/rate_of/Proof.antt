@@ -1,6 +1,7 @@
 -- `rate::rate_of` meets its contract. Assumes nothing.
 use mathlib.Core.Path.{_≡_}
-use Prim.Native.Nat.{ℕ, _+_, _*_, _≤_}
+use Prim.Native.Nat.{ℕ, _+_, _*_, _^_, _≤_, _<_}
+use native.Mathlib.Omega.{arith}
 use borrow.Author.Needs.{needs}
 use borrow.Author.Tests.{le-ltb}
 use Rattle.laws.proofs.Cases.{cases}
@@ -26,5 +27,5 @@ rate-of-spec =
     (λ c κs. search needs)
     (λ c. record { fits = search ticks-fit })
     (λ c. search needs)
-    (λ c. record { fits = search period-fits })
+    (λ c. let s : c .before .before .before .before .before .args .x < 2 ^ 32 = omega arith in record { fits = search period-fits })
     (λ c. search ratio))

@@ -1,20 +1,27 @@
--- A place has the two counts next to the wanted rate, and every pair lies on the far side of one of them. Assumes nothing.
-use mathlib.Core.Path.{_≡_, refl, ap, _∙_}
-use mathlib.Core.Bool.{Bool, true, false, cond}
+-- A bracket has the two counts next to the wanted rate, and every pair lies on the far side of one of them. Assumes nothing.
+use mathlib.Core.Path.{_≡_, ap, _∙_}
+use mathlib.Core.Bool.{cond}
 use Prim.Native.Nat.{ℕ, zero, suc, _+_, _-_, _*_, _/_, _^_, _≤_, _<_}
 use native.Mathlib.Nat.{le-refl, mul-pos, mul-le-mul, mul-le-mul-left, mul-le-mul-right, mul-lt-mul-of-pos-left, eq-of-mul-eq-mul-left, le-div-iff-mul-le, div-lt-iff-lt-mul}
 use native.Mathlib.Omega.{arith}
 use native.Mathlib.Decide.{decLe}
 use lib.Dec.{ltb}
-use borrow.Author.Tests.{ltb-true, ltb-false}
+use Rattle.laws.proofs.Cases.{by-lt}
 use Rattle.divider.specs.Divider.{dividerOf}
-use Rattle.rate.specs.declared.Place.{Place}
+use Rattle.rate.specs.declared.Bracket.{Bracket}
 use Rattle.rate.specs.Rate.{apart, IsPair, AsGood}
-use Rattle.rate.specs.Near.{Fit, Placed, coarserOf, shortened, finest, short, over}
+use Rattle.rate.specs.How.{Fit, Brackets, coarserOf, short, over}
 use Rattle.rate.proofs.Dividers.{some, most, grow, times, twice, next}
 use Rattle.rate.proofs.Order.{trans, longer, shorter}
 
--- the first place, and the next
+-- the first divider's bracket, and the next, coarser until the count is short enough, at most i times
+abbrev pub undivided : ℕ → ℕ → Bracket
+undivided C s = record { choice = 1; step = s; low = C / s }
+
+abbrev pub shortened : ℕ → Bracket → Bracket
+shortened zero a = a
+shortened (suc i) a = cond (ltb (a .low) 65_536) a (shortened i (coarserOf a))
+
 module _ (C k f : ℕ) (fit : Fit C k f) where
   step-some : (c : ℕ) → 1 ≤ c → c ≤ 7 → 0 < f * (k * dividerOf c)
   step-some c h l = mul-pos (fit .some) (mul-pos (fit .base) (some c h l))
@@ -25,8 +32,8 @@ module _ (C k f : ℕ) (fit : Fit C k f) where
   pub first-some : 0 < f * k
   first-some = mul-pos (fit .some) (fit .base)
 
-  pub first-placed : Placed C k f (finest C (f * k))
-  first-placed =
+  pub first-brackets : Brackets C k f (undivided C (f * k))
+  first-brackets =
       record {
         some = omega arith;
         most = omega arith;
@@ -42,7 +49,7 @@ module _ (C k f : ℕ) (fit : Fit C k f) where
       }
 
   -- the last divider reaches all
-  more : (a : Place) → Placed C k f a → 65_536 ≤ a .low → a .choice < 7
+  more : (a : Bracket) → Brackets C k f a → 65_536 ≤ a .low → a .choice < 7
   more a h l = by (decLe (a .choice) 6)
     where
       by : Dec (a .choice ≤ 6) → a .choice < 7
@@ -52,8 +59,8 @@ module _ (C k f : ℕ) (fit : Fit C k f) where
           let g : a .step ≡ f * (k * 64) = h .step ∙ ap (λ (c : ℕ). f * (k * dividerOf c)) e in
           omega (arith, h .around .under, mul-le-mul-left (a .step) l, fit .reach)
 
-  pub coarser-placed : (a : Place) → Placed C k f a → 65_536 ≤ a .low → Placed C k f (coarserOf a)
-  coarser-placed a h l =
+  pub coarser-brackets : (a : Bracket) → Brackets C k f a → 65_536 ≤ a .low → Brackets C k f (coarserOf a)
+  coarser-brackets a h l =
       record {
         some = omega arith;
         most = omega (arith, more a h l);
@@ -78,22 +85,17 @@ module _ (C k f : ℕ) (fit : Fit C k f) where
       step = rw (next (a .choice) (h .some) (more a h l)) (omega (arith, h .step))
 
   -- a count that is short enough is reached in six turns
-  abbrev Short : Place → Type 0
-  Short b = Placed C k f b × (b .low < 65_536)
+  abbrev Short : Bracket → Type 0
+  Short b = Brackets C k f b × (b .low < 65_536)
 
-  pub shortened-placed : (i : ℕ) (a : Place) → Placed C k f a → a .choice + i ≡ 7 → Short (shortened i a)
-  shortened-placed zero a h e = (h, at-last (decLe 65_536 (a .low)))
+  pub shortened-brackets : (i : ℕ) (a : Bracket) → Brackets C k f a → a .choice + i ≡ 7 → Short (shortened i a)
+  shortened-brackets zero a h e = (h, at-last (decLe 65_536 (a .low)))
     where
       at-last : Dec (65_536 ≤ a .low) → a .low < 65_536
       at-last (yes t) = absurd (omega (arith, more a h t))
       at-last (no t) = omega arith
-  shortened-placed (suc i) a h e =
-      by (ltb (a .low) 65_536) refl (λ l. shortened-placed i (coarserOf a) (coarser-placed a h l) (omega arith))
-    where
-      by : (t : Bool) → ltb (a .low) 65_536 ≡ t → (65_536 ≤ a .low → Short (shortened i (coarserOf a))) →
-          Short (cond t a (shortened i (coarserOf a)))
-      by true t g = (h, ltb-true (a .low) 65_536 t)
-      by false t g = g (ltb-false (a .low) 65_536 t)
+  shortened-brackets (suc i) a h e =
+      by-lt Short (a .low) 65_536 (λ l. (h, l)) (λ l. shortened-brackets i (coarserOf a) (coarser-brackets a h l) (omega arith))
 
 -- no count at all is never the nearer
 pub some-count : (C s m : ℕ) → 0 < C → short C s m * (m + 1) ≤ over C s m * m → 1 ≤ m
@@ -139,14 +141,14 @@ least-wins : {N w c x : ℕ} → Least N w c x → (d y : ℕ) → IsPair d y �
 least-wins {N} {w} {c} {x} h d y p e = by (decLe c d)
   where
     by : Dec (c ≤ d) → dividerOf c ≤ dividerOf d
-    by (yes t) = grow c d (h .pair .some) t (p .most)
+    by (yes t) = grow c d (h .pair .0) t (p .1)
     by (no t) =
-        let a : 2 * dividerOf d * (x + 1) ≤ dividerOf c * (x + 1) = mul-le-mul-right (x + 1) (twice d c (p .some) (omega arith) (h .pair .most)) in
+        let a : 2 * dividerOf d * (x + 1) ≤ dividerOf c * (x + 1) = mul-le-mul-right (x + 1) (twice d c (p .0) (omega arith) (h .pair .1)) in
         let b : dividerOf d * (y + 1) < dividerOf d * (2 * (x + 1)) =
-        mul-lt-mul-of-pos-left (omega (arith, h .full (omega (arith, p .some)), p .short)) (some d (p .some) (p .most)) in
+        mul-lt-mul-of-pos-left (omega (arith, h .full (omega (arith, p .0)), p .2)) (some d (p .0) (p .1)) in
         absurd (omega (arith, h .same))
 
-module _ (C k f : ℕ) (fit : Fit C k f) (a : Place) (h : Placed C k f a) where
+module _ (C k f : ℕ) (fit : Fit C k f) (a : Bracket) (h : Brackets C k f a) where
   abbrev N : ℕ
   N = dividerOf (a .choice)
 
@@ -163,7 +165,7 @@ module _ (C k f : ℕ) (fit : Fit C k f) (a : Place) (h : Placed C k f a) where
   ticks = mul-pos (fit .base) (some (a .choice) (h .some) (h .most))
 
   pub pair-pos : (d y : ℕ) → IsPair d y → 0 < period d y
-  pair-pos d y p = mul-pos (mul-pos (fit .base) (some d (p .some) (p .most))) (omega arith)
+  pair-pos d y p = mul-pos (mul-pos (fit .base) (some d (p .0) (p .1))) (omega arith)
 
   under : f * n * m ≤ C
   under = omega (arith, rw (h .step) at h .around .under)
@@ -171,7 +173,7 @@ module _ (C k f : ℕ) (fit : Fit C k f) (a : Place) (h : Placed C k f a) where
   past : C < f * n * (m + 1)
   past = omega (arith, rw (h .step) at h .around .past)
 
-  -- each pair has at most the place's counts, or one more at least
+  -- each pair has at most the bracket's counts, or one more at least
   sides : (R : Type 0) (d y : ℕ) → IsPair d y → (period d y ≤ n * m → R) → (n * (m + 1) ≤ period d y → R) → R
   sides R d y p few many = by (decLe (a .choice) d)
     where
@@ -183,11 +185,11 @@ module _ (C k f : ℕ) (fit : Fit C k f) (a : Place) (h : Placed C k f a) where
           of (no t) = let l : m + 1 ≤ z = omega arith in many (omega (arith, mul-le-mul-left n l))
 
       by : Dec (a .choice ≤ d) → R
-      by (yes t) = counts (2 ^ (d - a .choice) * (y + 1)) (rw (times (a .choice) d (h .some) t (p .most)) (omega arith))
+      by (yes t) = counts (2 ^ (d - a .choice) * (y + 1)) (rw (times (a .choice) d (h .some) t (p .1)) (omega arith))
       by (no t) =
-          let l : y + 1 ≤ 2 * m = omega (arith, p .short, h .full (omega (arith, p .some))) in
+          let l : y + 1 ≤ 2 * m = omega (arith, p .2, h .full (omega (arith, p .0))) in
           let g : k * (2 * dividerOf d * m) ≤ k * (N * m) =
-          mul-le-mul-left k (mul-le-mul-right m (twice d (a .choice) (p .some) (omega arith) (h .most))) in
+          mul-le-mul-left k (mul-le-mul-right m (twice d (a .choice) (p .0) (omega arith) (h .most))) in
           few (omega (arith, mul-le-mul-left (k * dividerOf d) l))
 
   finer : (w c x : ℕ) → Least N w c x → (d y : ℕ) → IsPair d y → n * w ≡ period d y → dividerOf c ≤ dividerOf d
