@@ -1,183 +1,165 @@
 // With no argument it replays the log on standard input; with arguments it answers one question about rates. It has no exit status to
-// give, so all it has to say goes to standard output.
+// give, so all it has to say goes to standard output: built in one buffer, every byte promised, and written at once. What is read and
+// written no contract can say: `number`, `replay_input`, `answer` and `main`, which talk to the system, promise no bytes, nor does `usage`,
+// a constant.
 use decimal::Decimal;
 use libc::STDIN_FILENO;
 use libc::STDOUT_FILENO;
 use rate::Found;
 use rate::Rated;
+ghost use mathlib.Core.Path.{_≡_};
+ghost use Prim.Native.Nat.{_≤_};
+ghost use lib.ListN.{length};
+ghost use Rattle.io.specs.Counts.{Counts};
+ghost use Rattle.decimal.specs.Put.{Put};
+ghost use Rattle.rvz.specs.Said.{saidOf, questionOf, ruleOf, foundText, ratedText, rateSaid, PairSaid, AnswerSaid};
 
-// What the first argument asks for.
+// What the first argument asks for, of PWM or SPI.
 enum Question {
-    PwmPair,
-    SpiPair,
-    PwmRate,
-    SpiRate,
+    Pair(bool),
+    Rate(bool),
     Other,
 }
 
-fn say(words: &[u8]) {
-    io::write_all(STDOUT_FILENO, words);
+// What a log's replay prints. 16,384 bytes have room for 2,048 readings, one more than a log can have; their lines, of at most 21 bytes, and
+// the last, of at most 58, fit 43,066.
+fn replay_log(text: &mut [u8], log: &[u8]) -> usize
+    ensures { λ r. ⌜ Put (now (text .entry)) 0 (saidOf (now (log .entry))) (now (text .exit)) r ⌝ }
+    ensures { λ _. ⌜ length (saidOf (now (log .entry))) ≤ 43_066 ⌝ }
+{
+    let mut out = [0u8; 16384];
+    let stop = replay::replay(log, &mut out);
+    let n = 8 * stop.readings;
+    text::replay_text(text, &out[..n], stop.applied as u64, stop.refused as u64)
 }
 
-fn say_number(n: u64) {
-    io::print_decimal(STDOUT_FILENO, n);
+fn asked(word: &[u8]) -> Question
+    ensures { λ r. ⌜ r ≡ questionOf (now (word .entry)) ⌝ }
+{
+    if check::same(word, b"pwm") {
+        return Question::Pair(false);
+    }
+    if check::same(word, b"spi") {
+        return Question::Pair(true);
+    }
+    if check::same(word, b"pwm-rate") {
+        return Question::Rate(false);
+    }
+    if check::same(word, b"spi-rate") {
+        return Question::Rate(true);
+    }
+    Question::Other
 }
 
-fn say_refused(n: u64) {
-    say(b"refused ");
-    say_number(n);
-    say(b"\n");
-}
-
-fn say_usage() {
-    say(b"usage: rvz                      replays the log on standard input\n");
-    say(
-        b"       rvz pwm RATE TOL         the pair for a PWM rate: 'choice C x X' or 'refused R'\n",
-    );
-    say(b"       rvz spi RATE TOL         the pair for an SPI rate\n");
-    say(
-        b"       rvz pwm-rate CHOICE X    the rate of a PWM pair: '40000000 P', a fraction, or 'refused R'\n",
-    );
-    say(b"       rvz spi-rate CHOICE X    the rate of an SPI pair\n");
-    say(b"RATE is in hertz, TOL in millionths of it\n");
-}
-
-fn say_no_number(name: &[u8]) {
-    say(name);
-    say(b" is no decimal number from 0 to 18446744073709551615\n");
-}
-
-fn say_found(found: Found) {
+fn say_found(text: &mut [u8], found: Found) -> usize
+    ensures { λ r. ⌜ Put (now (text .entry)) 0 (foundText found) (now (text .exit)) r ⌝ }
+{
     match found {
-        Found::Pair { choice, x } => {
-            say(b"choice ");
-            say_number(choice);
-            say(b" x ");
-            say_number(x);
-            say(b"\n");
-        }
-        Found::Refused(n) => say_refused(n as u64),
+        Found::Pair { choice, x } => text::pair_text(text, choice, x),
+        Found::Refused(n) => text::refused_text(text, n as u64),
     }
 }
 
-fn say_rated(rated: Rated) {
+fn say_rated(text: &mut [u8], rated: Rated) -> usize
+    ensures { λ r. ⌜ Put (now (text .entry)) 0 (ratedText rated) (now (text .exit)) r ⌝ }
+{
     match rated {
-        Rated::Ratio { clock, period } => {
-            say_number(clock);
-            say(b" ");
-            say_number(period);
-            say(b"\n");
-        }
-        Rated::Unset(n) => say_refused(n as u64),
+        Rated::Ratio { clock, period } => text::rate_text(text, clock, period),
+        Rated::Unset(n) => text::refused_text(text, n as u64),
+    }
+}
+
+fn say_pair(text: &mut [u8], spi: bool, a: Decimal, b: Decimal) -> usize
+    ensures { λ r. ⌜ PairSaid (ruleOf spi) a b (now (text .entry)) (now (text .exit)) r ⌝ }
+{
+    let Decimal::Number(rate) = a else {
+        return text::no_number_text(text, b"RATE");
+    };
+    let Decimal::Number(tolerance) = b else {
+        return text::no_number_text(text, b"TOL");
+    };
+    if spi {
+        return say_found(text, rate::find_spi(rate, tolerance));
+    }
+    say_found(text, rate::find_pwm(rate, tolerance))
+}
+
+fn say_rate(text: &mut [u8], spi: bool, a: Decimal, b: Decimal) -> usize
+    ensures { λ r. ⌜ Put (now (text .entry)) 0 (rateSaid (ruleOf spi) a b) (now (text .exit)) r ⌝ }
+{
+    let Decimal::Number(choice) = a else {
+        return text::no_number_text(text, b"CHOICE");
+    };
+    let Decimal::Number(x) = b else {
+        return text::no_number_text(text, b"X");
+    };
+    if spi {
+        return say_rated(text, rate::spi_rate(choice, x));
+    }
+    say_rated(text, rate::pwm_rate(choice, x))
+}
+
+fn usage(text: &mut [u8]) -> usize
+    ensures { λ r. ⌜ Counts r (now (text .exit)) ⌝ }
+{
+    text::put_word(
+        text,
+        0,
+        b"usage: rvz                      replays the log on standard input
+       rvz pwm RATE TOL         the pair for a PWM rate: 'choice C x X' or 'refused R'
+       rvz spi RATE TOL         the pair for an SPI rate
+       rvz pwm-rate CHOICE X    the rate of a PWM pair: '40000000 P', a fraction, or 'refused R'
+       rvz spi-rate CHOICE X    the rate of an SPI pair
+RATE is in hertz, TOL in millionths of it
+",
+    )
+}
+
+fn say(text: &mut [u8], question: Question, a: Decimal, b: Decimal) -> usize
+    ensures { λ r. ⌜ AnswerSaid question a b (now (text .entry)) (now (text .exit)) r ⌝ }
+    ensures { λ r. ⌜ Counts r (now (text .exit)) ⌝ }
+{
+    match question {
+        Question::Pair(spi) => say_pair(text, spi, a, b),
+        Question::Rate(spi) => say_rate(text, spi, a, b),
+        Question::Other => usage(text),
     }
 }
 
 // Argument i as a number. One that does not fit the buffer is no number, since `arg` then gives no byte of it.
 fn number(i: usize) -> Decimal {
-    let mut text = io::buffer();
-    let n = os::arg(i, &mut text);
-    decimal::read(&text[..n])
-}
-
-fn asked() -> Question {
-    let mut text = io::buffer();
-    let n = os::arg(1, &mut text);
-    let word = &text[..n];
-    if check::same(word, b"pwm") {
-        return Question::PwmPair;
-    }
-    if check::same(word, b"spi") {
-        return Question::SpiPair;
-    }
-    if check::same(word, b"pwm-rate") {
-        return Question::PwmRate;
-    }
-    if check::same(word, b"spi-rate") {
-        return Question::SpiRate;
-    }
-    Question::Other
-}
-
-fn answer_pair(is_spi: bool) {
-    let Decimal::Number(rate) = number(2) else {
-        say_no_number(b"RATE");
-        return;
-    };
-    let Decimal::Number(tolerance) = number(3) else {
-        say_no_number(b"TOL");
-        return;
-    };
-    if is_spi {
-        say_found(rate::find_spi(rate, tolerance));
-    } else {
-        say_found(rate::find_pwm(rate, tolerance));
-    }
-}
-
-fn answer_rate(is_spi: bool) {
-    let Decimal::Number(choice) = number(2) else {
-        say_no_number(b"CHOICE");
-        return;
-    };
-    let Decimal::Number(x) = number(3) else {
-        say_no_number(b"X");
-        return;
-    };
-    if is_spi {
-        say_rated(rate::spi_rate(choice, x));
-    } else {
-        say_rated(rate::pwm_rate(choice, x));
-    }
-}
-
-// A reading on a line of its own, where the output has it.
-fn say_reading(out: &[u8], i: usize) {
-    if i < 2048 {
-        if 8 * i + 8 <= out.len() {
-            say_number(wire::le64(out, 8 * i));
-            say(b"\n");
-        }
-    }
-}
-
-fn say_readings(out: &[u8], n: usize) {
-    let mut i: usize = 0;
-    while i < n {
-        say_reading(out, i);
-        i += 1;
-    }
+    let mut word = io::buffer();
+    let n = os::arg(i, &mut word);
+    decimal::read(&word[..n])
 }
 
 // One byte more than a log may have, so that an over-long one shows.
-fn replay_input() {
+fn replay_input(text: &mut [u8]) -> usize
+    ensures { λ r. ⌜ Counts r (now (text .exit)) ⌝ }
+{
     let mut log = [0u8; 32769];
     let n = io::read_full(STDIN_FILENO, &mut log);
-    let mut out = [0u8; 16384];
-    let stop = replay::replay(&log[..n], &mut out);
-    say_readings(&out, stop.readings);
-    say(b"applied ");
-    say_number(stop.applied as u64);
-    say(b" refused ");
-    say_number(stop.refused as u64);
-    say(b"\n");
+    replay_log(text, &log[..n])
+}
+
+fn answer(text: &mut [u8]) -> usize
+    ensures { λ r. ⌜ Counts r (now (text .exit)) ⌝ }
+{
+    let words = os::arg_count();
+    if words == 1 {
+        return replay_input(text);
+    }
+    if words != 4 {
+        return usage(text);
+    }
+    let mut word = io::buffer();
+    let n = os::arg(1, &mut word);
+    let question = asked(&word[..n]);
+    say(text, question, number(2), number(3))
 }
 
 fn main() {
-    let words = os::arg_count();
-    if words == 1 {
-        replay_input();
-        return;
-    }
-    if words != 4 {
-        say_usage();
-        return;
-    }
-    let question = asked();
-    match question {
-        Question::PwmPair => answer_pair(false),
-        Question::SpiPair => answer_pair(true),
-        Question::PwmRate => answer_rate(false),
-        Question::SpiRate => answer_rate(true),
-        Question::Other => say_usage(),
-    }
+    let mut text = [0u8; 43066];
+    let n = answer(&mut text);
+    io::write_all(STDOUT_FILENO, &text[..n]);
 }

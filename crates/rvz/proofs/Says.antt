@@ -1,0 +1,165 @@
+-- What the program's functions lean on: words compared, an answer's cases, and the readings in the replay's output. Assumes nothing.
+use mathlib.Core.Path.{_≡_, refl, sym, ap, _∙_, subst}
+use mathlib.Core.Bool.{Bool, true, false, cond, true≢false, false≢true}
+use mathlib.Core.List.{List, [], _∷_, _++_}
+use Prim.Native.Nat.{ℕ, zero, suc, _+_, _*_, _/_, _^_, _≤_, _<_}
+use native.Mathlib.Omega.{arith}
+use lib.Dec.{eqb}
+use lib.ListN.{length, take, drop, length-append}
+use lib.Seq.{length-take-le, take-at}
+use borrow.Author.Tests.{eqb-true, eq-eqb}
+use Rattle.laws.proofs.Truth.{both-true}
+use Rattle.laws.proofs.Cases.{taken, left}
+use Rattle.io.specs.Counts.{Counts}
+use Rattle.decimal.specs.declared.Decimal.{Decimal}
+use Rattle.decimal.specs.declared.Decimal.the-variants.{Number, NoNumber}
+use Rattle.decimal.specs.Put.{Put}
+use Rattle.decimal.proofs.Puts.{put-long}
+use Rattle.wire.specs.Bytes.{leBytes}
+use Rattle.fold.specs.declared.Stop.{Stop}
+use Rattle.fold.specs.Output.{numberOf, bytesOf, over, stopOf, outputOf}
+use Rattle.fold.proofs.Written.{length-bytes}
+use Rattle.replay.specs.Replay.{replayOf}
+use Rattle.rate.specs.declared.Rule.{Rule}
+use Rattle.rate.specs.declared.Found.{Found}
+use Rattle.rate.specs.declared.Rated.{Rated}
+use Rattle.rate.specs.Rate.{rateOf, Answer}
+use Rattle.text.specs.Text.{textOf, readingsIn}
+use Rattle.text.proofs.Room.{Bytes, text-below}
+use Rattle.rvz.specs.declared.Question.{Question}
+use Rattle.rvz.specs.declared.Question.the-variants.{Pair, Rate, Other}
+use Rattle.rvz.specs.Said.{saidOf, same, ruleOf, foundText, ratedText, rateSaid, PairSaid, AnswerSaid}
+
+-- ---- two words are the same
+
+same-refl : (s : List ℕ) → same s s ≡ true
+unfolding same
+same-refl [] = refl
+same-refl (a ∷ s) = rw (eq-eqb a a refl, same-refl s)
+
+same-is : (s t : List ℕ) → same s t ≡ true → s ≡ t
+unfolding same
+same-is [] [] e = refl
+same-is [] (b ∷ t) e = absurd (false≢true e)
+same-is (a ∷ s) [] e = absurd (false≢true e)
+same-is (a ∷ s) (b ∷ t) e =
+    let h = both-true (eqb a b) (same s t) e in
+    let i : a ≡ b = eqb-true a b (h .0) in
+    let j : s ≡ t = same-is s t (h .1) in
+    cc
+
+abbrev Tells : Bool → List ℕ → List ℕ → Type 0
+Tells r s t = (r ≡ true → s ≡ t) × (s ≡ t → r ≡ true)
+
+is-same : (r : Bool) (s t : List ℕ) → Tells r s t → r ≡ true → same s t ≡ true
+is-same r s t e h = subst (λ (u : List ℕ). same s u ≡ true) (e .0 h) (same-refl s)
+
+is-other : (r : Bool) (s t : List ℕ) → Tells r s t → r ≡ false → same s t ≡ false
+is-other r s t e h = go (same s t) refl
+  where
+    go : (x : Bool) → same s t ≡ x → x ≡ false
+    go true p = absurd (true≢false (sym (e .1 (same-is s t p)) ∙ h))
+    go false p = refl
+
+module _ (r : Bool) (s t : List ℕ) (q x y : Question) (e : Tells r s t) where
+  pub asks : r ≡ true → q ≡ x → q ≡ cond (same s t) x y
+  asks h = taken (same s t) x y q (is-same r s t e h)
+
+  pub asks-else : r ≡ false → q ≡ y → q ≡ cond (same s t) x y
+  asks-else h = left (same s t) x y q (is-other r s t e h)
+
+-- ---- what stands in the buffer
+
+pub put-counts : (a b s : List ℕ) (n : ℕ) → Put a 0 s b n → Counts n b
+put-counts a b s n x =
+    let h : n ≤ length b = omega (arith, x .place, put-long a b s 0 n x) in
+    (h, sym (length-take-le n b h))
+
+-- ---- an answer by cases
+
+pub arm : {A : Type 0} (f : A → List ℕ) (a b : A) (out out′ : List ℕ) (n : ℕ) → a ≡ b → Put out 0 (f b) out′ n → Put out 0 (f a) out′ n
+arm f a b out out′ n e x = rw e x
+
+module _ (s : Bool) (a b : Decimal) (out out′ : List ℕ) (n : ℕ) where
+  pub no-rate : a ≡ NoNumber → PairSaid (ruleOf s) NoNumber b out out′ n → PairSaid (ruleOf s) a b out out′ n
+  no-rate e x = rw e x
+
+  pub no-tol : (f : ℕ) → a ≡ Number f → b ≡ NoNumber → PairSaid (ruleOf s) (Number f) NoNumber out out′ n → PairSaid (ruleOf s) a b out out′ n
+  no-tol f e g x = rw (e, g) x
+
+  pub no-choice : a ≡ NoNumber → Put out 0 (rateSaid (ruleOf s) NoNumber b) out′ n → Put out 0 (rateSaid (ruleOf s) a b) out′ n
+  no-choice e x = rw e x
+
+  pub no-x : (c : ℕ) → a ≡ Number c → b ≡ NoNumber → Put out 0 (rateSaid (ruleOf s) (Number c) NoNumber) out′ n → Put out 0 (rateSaid (ruleOf s) a b) out′ n
+  no-x c e g x = rw (e, g) x
+
+  module _ (t : Bool) (e : s ≡ t) where
+    pub found : (f tol : ℕ) (r : Found) → a ≡ Number f → b ≡ Number tol → Answer (ruleOf t) f tol r → Put out 0 (foundText r) out′ n → PairSaid (ruleOf s) a b out out′ n
+    found f tol r g h x y = rw (e, g, h) (r, x, y)
+
+    pub rated : (c x : ℕ) (r : Rated) → a ≡ Number c → b ≡ Number x → r ≡ rateOf (ruleOf t) c x → Put out 0 (ratedText r) out′ n → Put out 0 (rateSaid (ruleOf s) a b) out′ n
+    rated c x r g h i y = rw (e, g, h, ← i) y
+
+module _ (q : Question) (a b : Decimal) (out out′ : List ℕ) (n : ℕ) where
+  pub says-pair : (s : Bool) → q ≡ Pair s → PairSaid (ruleOf s) a b out out′ n → AnswerSaid q a b out out′ n
+  says-pair s e x = rw e x
+
+  pub says-rate : (s : Bool) → q ≡ Rate s → Put out 0 (rateSaid (ruleOf s) a b) out′ n → AnswerSaid q a b out out′ n
+  says-rate s e x = rw e x
+
+  pub says-usage : q ≡ Other → AnswerSaid q a b out out′ n
+  says-usage e = rw e tt
+
+pub pair-counts : (u : Rule) (a b : Decimal) (out out′ : List ℕ) (n : ℕ) → PairSaid u a b out out′ n → Counts n out′
+pair-counts u NoNumber b out out′ n x = put-counts out out′ _ n x
+pair-counts u (Number f) NoNumber out out′ n x = put-counts out out′ _ n x
+pair-counts u (Number f) (Number tol) out out′ n x = put-counts out out′ _ n (x .2)
+
+-- ---- the readings in the replay's output
+
+pub long-bytes : (vs : List ℕ) → length (bytesOf (leBytes 8) vs) ≡ 8 * length vs
+long-bytes vs = length-bytes (leBytes 8) (λ v. refl) vs
+
+small-append : (s t : List ℕ) → Bytes s → Bytes t → Bytes (s ++ t)
+small-append [] t p q i = q i
+small-append (a ∷ s) t p q zero = p zero
+small-append (a ∷ s) t p q (suc i) = small-append s t (λ j. p (suc j)) q i
+
+small-le : (n v : ℕ) → Bytes (leBytes n v)
+small-le zero v i = omega arith
+small-le (suc n) v zero = omega arith
+small-le (suc n) v (suc i) = small-le n (v / 256) i
+
+small-bytes : (vs : List ℕ) → Bytes (bytesOf (leBytes 8) vs)
+unfolding bytesOf
+small-bytes [] i = omega arith
+small-bytes (v ∷ vs) i = small-append (leBytes 8 v) (bytesOf (leBytes 8) vs) (small-le 8 v) (small-bytes vs) i
+
+module _ (log : List ℕ) (room : ℕ) (stop : Stop) (out out′ : List ℕ) (s : stop ≡ stopOf (replayOf log room))
+    (o : out′ ≡ outputOf (leBytes 8) (replayOf log room) out) where
+  bytes : List ℕ
+  bytes = bytesOf (leBytes 8) (replayOf log room .readings)
+
+  long : 8 * stop .readings ≡ length bytes
+  unfolding stopOf bytes
+  long = omega (arith, ap (λ (t : Stop). t .readings) s, long-bytes (replayOf log room .readings))
+
+  pub few : 8 * stop .readings ≤ length out′
+  unfolding outputOf over bytes
+  few = omega (arith, long, ap length o, length-append bytes (drop (length bytes) out))
+
+  theirs : take (8 * stop .readings) out′ ≡ bytes
+  unfolding outputOf over bytes
+  theirs = rw o (take-at bytes (drop (length bytes) out) (8 * stop .readings) (sym long))
+
+  module _ (e : room ≡ 16_384) where
+    pub said : (text text′ : List ℕ) (n : ℕ) → Put text 0 (textOf (readingsIn (take (8 * stop .readings) out′)) (stop .applied) (stop .refused)) text′ n
+        → Put text 0 (saidOf log) text′ n
+    unfolding saidOf stopOf bytes
+    said text text′ n x = rw (← e) (rw (theirs, s) at x)
+
+    pub room-enough : length out′ ≡ 16_384 → stop .applied < 2 ^ 64 → stop .refused < 2 ^ 64 → length (saidOf log) ≤ 43_066
+    unfolding saidOf stopOf bytes
+    room-enough h p q =
+        let t = replayOf log room in
+        rw (← e) (omega (arith, few, long, text-below bytes (t .applied) (numberOf (t .course)) (small-bytes (t .readings)) (rw s at p) (rw s at q)))

@@ -1,0 +1,20 @@
+-- `rvz::say_rated` meets its contract. Assumes nothing.
+use borrow.Author.Needs.{needs}
+use Rattle.rvz.proofs.Says.{arm}
+use Rattle.rvz.specs.Said.{ratedText}
+use Rattle.rvz.proofs.say_rated.Statement.{statement}
+use Rattle.rvz.proofs.say_rated.Tie as tie
+
+pub say-rated-spec : {M : Type 1} → statement M
+say-rated-spec =
+    tie.close
+    (tie.spec
+    (λ c. search needs)
+    (λ c κs. search needs)
+    (λ c. search needs)
+    (λ c. search needs)
+    (λ c κs. search needs)
+    (λ c. search needs)
+    (λ c. search (arm ratedText))
+    (λ c. search needs)
+    (λ c. search (arm ratedText)))

@@ -1,0 +1,62 @@
+-- What the program prints, as bytes. Assumes nothing.
+use mathlib.Core.List.{List, [], _∷_, _++_}
+use Prim.Native.Nat.{ℕ, zero, suc, _-_, _/_, _^_}
+use lib.ListN.{length, drop}
+use Rattle.decimal.specs.Digits.{digitsOf}
+use Rattle.wire.specs.Bytes.{leOf}
+
+-- the fixed words: "applied ", "refused ", "choice ", " x ", " " and " is no decimal number from 0 to "
+abbrev pub appliedWord : List ℕ
+appliedWord = 97 ∷ 112 ∷ 112 ∷ 108 ∷ 105 ∷ 101 ∷ 100 ∷ 32 ∷ []
+
+abbrev pub refusedWord : List ℕ
+refusedWord = 114 ∷ 101 ∷ 102 ∷ 117 ∷ 115 ∷ 101 ∷ 100 ∷ 32 ∷ []
+
+abbrev pub choiceWord : List ℕ
+choiceWord = 99 ∷ 104 ∷ 111 ∷ 105 ∷ 99 ∷ 101 ∷ 32 ∷ []
+
+abbrev pub xWord : List ℕ
+xWord = 32 ∷ 120 ∷ 32 ∷ []
+
+abbrev pub space : List ℕ
+space = 32 ∷ []
+
+abbrev pub noDecimal : List ℕ
+noDecimal =
+    32 ∷ 105 ∷ 115 ∷ 32 ∷ 110 ∷ 111 ∷ 32 ∷ 100 ∷ 101 ∷ 99 ∷ 105 ∷ 109 ∷ 97 ∷ 108 ∷ 32 ∷ 110 ∷ 117 ∷ 109 ∷ 98 ∷ 101 ∷ 114 ∷ 32
+    ∷ 102 ∷ 114 ∷ 111 ∷ 109 ∷ 32 ∷ 48 ∷ 32 ∷ 116 ∷ 111 ∷ 32 ∷ []
+
+-- a line ends in a newline
+abbrev pub line : List ℕ → List ℕ
+line s = s ++ 10 ∷ []
+
+-- ---- the replay: "prints each reading in decimal on its own line, then `applied K refused R`"
+
+unfoldable pub linesOf : List ℕ → List ℕ
+linesOf [] = []
+linesOf (v ∷ vs) = line (digitsOf v) ++ linesOf vs
+
+abbrev pub textOf : List ℕ → ℕ → ℕ → List ℕ
+textOf vs k r = linesOf vs ++ line (appliedWord ++ digitsOf k ++ (space ++ refusedWord) ++ digitsOf r)
+
+-- the readings in the output's bytes, 8 bytes each: the first n, and all of them
+unfoldable pub numbersIn : ℕ → List ℕ → List ℕ
+numbersIn zero s = []
+numbersIn (suc n) s = leOf 8 s 0 ∷ numbersIn n (drop 8 s)
+
+abbrev pub readingsIn : List ℕ → List ℕ
+readingsIn s = numbersIn (length s / 8) s
+
+-- ---- the rates: `choice C x X`, `40000000 P`, `refused R`, and what is said to a word that is no number
+
+abbrev pub pairText : ℕ → ℕ → List ℕ
+pairText c x = line (choiceWord ++ digitsOf c ++ xWord ++ digitsOf x)
+
+abbrev pub rateText : ℕ → ℕ → List ℕ
+rateText clock period = line (digitsOf clock ++ space ++ digitsOf period)
+
+abbrev pub refusedText : ℕ → List ℕ
+refusedText r = line (refusedWord ++ digitsOf r)
+
+abbrev pub noNumberText : List ℕ → List ℕ
+noNumberText name = name ++ line (noDecimal ++ digitsOf (2 ^ 64 - 1))
