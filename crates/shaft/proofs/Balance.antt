@@ -7,10 +7,10 @@ use native.Mathlib.Omega.{arith}
 use lib.Dec.{eqb}
 use lib.IntN.{ℤ, pos, negsuc, _+ℤ_, _-ℤ_, +ℤ-idr, +ℤ-assoc, +ℤ-comm, +ℤ-negℤ-cancel, -ℤ-+ℤ-cancel}
 use Rattle.bits.specs.Bits.{num}
-use Rattle.encoder.specs.Encoder.{place, turned}
+use Rattle.encoder.specs.Encoder.{place, places}
 use Rattle.shaft.specs.Shaft.{quarter, phase, both, Small, Near, Fits, lastFrom, doublesFrom, stepOf, stepsFrom, AllPins}
 use Rattle.shaft.proofs.Group.{shuffle}
-use Rattle.shaft.proofs.Phase.{backOf, counts, shown, place-place, place-lt, turned-to, turned-lt, both-is, quarter-lt, quarter-add, phase-is}
+use Rattle.shaft.proofs.Phase.{backOf, counts, shown, place-place, place-lt, places-to, places-lt, both-is, quarter-lt, quarter-add, phase-is}
 
 -- of the doubles, k went back
 abbrev pub Balanced : ℕ → ℤ → List ℕ → List ℤ → ℕ → Type 0
@@ -20,16 +20,16 @@ none : (v : ℕ) (p : ℤ) → Balanced v p [] [] 0
 none v p = ap (λ (x : ℤ). x +ℤ pos 0) (+ℤ-idr p)
 
 -- one move more, by m: the doubles that it shows, and the balance with it
-module _ (v w : ℕ) (p q m : ℤ) (hv : v < 4) (hw : w < 4) (to : q ≡ p +ℤ m) (small : Small m) (turns : turned v w ≡ quarter m) where
+module _ (v w : ℕ) (p q m : ℤ) (hv : v < 4) (hw : w < 4) (to : q ≡ p +ℤ m) (small : Small m) (shows : places v w ≡ quarter m) where
   double : num (both v w) ≡ num (eqb (quarter m) 2)
-  double = both-is v w hv hw ∙ ap (λ (i : ℕ). num (eqb i 2)) turns
+  double = both-is v w hv hw ∙ ap (λ (i : ℕ). num (eqb i 2)) shows
 
   pub back-within : backOf m ≤ num (both v w)
   back-within = omega (arith, counts m small .within, double)
 
   pub more : (vs : List ℕ) (ps : List ℤ) (k : ℕ) → Balanced w q vs ps k → Balanced v p (w ∷ vs) (q ∷ ps) (backOf m + k)
   more vs ps k h =
-      ap (λ (i : ℕ). p +ℤ (stepOf i +ℤ stepsFrom w vs) +ℤ pos (2 * (num (both v w) + doublesFrom w vs))) turns
+      ap (λ (i : ℕ). p +ℤ (stepOf i +ℤ stepsFrom w vs) +ℤ pos (2 * (num (both v w) + doublesFrom w vs))) shows
       ∙ ap (λ (i : ℕ). p +ℤ (stepOf (quarter m) +ℤ stepsFrom w vs) +ℤ pos i) (doubled (num (both v w)) (num (eqb (quarter m) 2)) (doublesFrom w vs) double)
       ∙ shuffle _+ℤ_ +ℤ-assoc +ℤ-comm p (stepOf (quarter m)) (stepsFrom w vs) (pos (2 * num (eqb (quarter m) 2))) (pos (2 * doublesFrom w vs)) m (lastFrom q ps) (pos (4 * k)) (pos (4 * backOf m)) (counts m small .sum)
       (ap (λ (y : ℤ). y +ℤ stepsFrom w vs +ℤ pos (2 * doublesFrom w vs)) (sym to) ∙ h)
@@ -55,24 +55,24 @@ balance v p (w ∷ vs) (q ∷ ps) e n f =
     let hv = phase-lt p v e in
     let hw = phase-lt q w (f .0) in
     let to : q ≡ p +ℤ m = sym (+ℤ-comm p m ∙ -ℤ-+ℤ-cancel q p) in
-    let turns : turned v w ≡ quarter m = subst (λ (a : ℕ). turned a w ≡ quarter m) e (subst (λ (b : ℕ). turned (phase p) b ≡ quarter m) (f .0) (shown p q m to)) in
-    (backOf m + r .0, omega (arith, back-within v w p q m hv hw to n turns, r .1), more v w p q m hv hw to n turns vs ps (r .0) (r .2))
+    let shows : places v w ≡ quarter m = subst (λ (a : ℕ). places a w ≡ quarter m) e (subst (λ (b : ℕ). places (phase p) b ≡ quarter m) (f .0) (shown p q m to)) in
+    (backOf m + r .0, omega (arith, back-within v w p q m hv hw to n shows, r .1), more v w p q m hv hw to n shows vs ps (r .0) (r .2))
 
--- a move that the pins show as a turn by j, with the wanted number of doubles back left for the rest
+-- a move that the pins show as j places forward, with the wanted number of doubles back left for the rest
 record Chosen (j k d : ℕ) : Type 0 where
   m : ℤ
   small : Small m
-  turns : j ≡ quarter m
+  shows : j ≡ quarter m
   rest : ℕ
   sum : backOf m + rest ≡ k
   left : rest ≤ d
 
 choose : (j k d : ℕ) → j < 4 → k ≤ num (eqb j 2) + d → Chosen j k d
-choose zero k d h l = record { m = pos 0; small = omega arith; turns = refl; rest = k; sum = omega arith; left = omega arith }
-choose (suc zero) k d h l = record { m = pos 1; small = omega arith; turns = refl; rest = k; sum = omega arith; left = omega arith }
-choose (suc (suc zero)) zero d h l = record { m = pos 2; small = omega arith; turns = refl; rest = 0; sum = omega arith; left = omega arith }
-choose (suc (suc zero)) (suc k) d h l = record { m = negsuc 1; small = omega arith; turns = refl; rest = k; sum = omega arith; left = omega arith }
-choose (suc (suc (suc zero))) k d h l = record { m = negsuc 0; small = omega arith; turns = refl; rest = k; sum = omega arith; left = omega arith }
+choose zero k d h l = record { m = pos 0; small = omega arith; shows = refl; rest = k; sum = omega arith; left = omega arith }
+choose (suc zero) k d h l = record { m = pos 1; small = omega arith; shows = refl; rest = k; sum = omega arith; left = omega arith }
+choose (suc (suc zero)) zero d h l = record { m = pos 2; small = omega arith; shows = refl; rest = 0; sum = omega arith; left = omega arith }
+choose (suc (suc zero)) (suc k) d h l = record { m = negsuc 1; small = omega arith; shows = refl; rest = k; sum = omega arith; left = omega arith }
+choose (suc (suc (suc zero))) k d h l = record { m = negsuc 0; small = omega arith; shows = refl; rest = k; sum = omega arith; left = omega arith }
 choose (suc (suc (suc (suc j)))) k d h l = absurd (omega arith)
 
 -- for every number of doubles that went back there is a motion, from any place that shows the first pins
@@ -82,23 +82,23 @@ reach v p [] e a k h =
     ([], tt, tt, subst (λ (i : ℕ). Balanced v p [] [] i) zero-is (none v p))
 reach v p (w ∷ vs) e a k h =
     let hv = phase-lt p v e in
-    let c = choose (turned v w) k (doublesFrom w vs) (turned-lt v w) (omega (arith, h, both-is v w hv (a .0))) in
+    let c = choose (places v w) k (doublesFrom w vs) (places-lt v w) (omega (arith, h, both-is v w hv (a .0))) in
     let q = p +ℤ c .m in
-    let there = arrives (c .m) hv (c .turns) in
+    let there = arrives (c .m) hv (c .shows) in
     let r = reach w q vs there (a .1) (c .rest) (c .left) in (
       q ∷ r .0,
       near (c .m) (c .small),
       (there, r .1, r .2),
-      subst (λ (i : ℕ). Balanced v p (w ∷ vs) (q ∷ r .0) i) (c .sum) (more v w p q (c .m) hv (a .0) refl (c .small) (c .turns) vs (r .0) (c .rest) (r .3)),
+      subst (λ (i : ℕ). Balanced v p (w ∷ vs) (q ∷ r .0) i) (c .sum) (more v w p q (c .m) hv (a .0) refl (c .small) (c .shows) vs (r .0) (c .rest) (r .3)),
     )
   where
-    arrives : (m : ℤ) → v < 4 → turned v w ≡ quarter m → phase (p +ℤ m) ≡ w
-    arrives m hv turns =
+    arrives : (m : ℤ) → v < 4 → places v w ≡ quarter m → phase (p +ℤ m) ≡ w
+    arrives m hv shows =
         phase-is (p +ℤ m)
         ∙ ap place (quarter-add p m)
-        ∙ ap (λ (i : ℕ). place ((quarter p + i) % 4)) (sym turns)
-        ∙ ap (λ (i : ℕ). place ((i + turned v w) % 4)) (sym (place-place (quarter p) (quarter-lt p)) ∙ ap place (sym (phase-is p) ∙ e))
-        ∙ turned-to v w hv (a .0)
+        ∙ ap (λ (i : ℕ). place ((quarter p + i) % 4)) (sym shows)
+        ∙ ap (λ (i : ℕ). place ((i + places v w) % 4)) (sym (place-place (quarter p) (quarter-lt p)) ∙ ap place (sym (phase-is p) ∙ e))
+        ∙ places-to v w hv (a .0)
 
     near : (m : ℤ) → Small m → Small (p +ℤ m -ℤ p)
     near m = subst Small (sym (ap (λ (y : ℤ). y -ℤ p) (+ℤ-comm p m) ∙ +ℤ-negℤ-cancel m p))

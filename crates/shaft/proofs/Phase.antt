@@ -10,7 +10,7 @@ use lib.Dec.{T, eqb, eqb→eq, ltb, ltb→lt}
 use lib.IntN.{ℤ, pos, negsuc, sucℤ, predℤ, _+ℤ_, +ℤ-sucℤ, +ℤ-predℤ, +ℤ-idr}
 use Rattle.laws.proofs.Table.{every, at}
 use Rattle.bits.specs.Bits.{num}
-use Rattle.encoder.specs.Encoder.{place, turned}
+use Rattle.encoder.specs.Encoder.{place, places}
 use Rattle.shaft.specs.Shaft.{quarter, pinsAt, phase, Small, both, stepOf}
 
 -- ---- a test at each pair of numbers below 4
@@ -33,23 +33,23 @@ place-place a h = eqb→eq (place (place a)) a (line (λ a. eqb (place (place a)
 pub place-lt : (a : ℕ) → a < 4 → place a < 4
 place-lt a h = ltb→lt (place a) 4 (line (λ a. ltb (place a) 4) tt a h)
 
--- j places on, the pins have turned by j
-pub turned-on : (a j : ℕ) → a < 4 → j < 4 → turned (place a) (place ((a + j) % 4)) ≡ j
-turned-on a j h k =
-    eqb→eq (turned (place a) (place ((a + j) % 4))) j (square (λ a j. eqb (turned (place a) (place ((a + j) % 4))) j) tt a j h k)
+-- j places on, the pins are j places forward
+pub places-on : (a j : ℕ) → a < 4 → j < 4 → places (place a) (place ((a + j) % 4)) ≡ j
+places-on a j h k =
+    eqb→eq (places (place a) (place ((a + j) % 4))) j (square (λ a j. eqb (places (place a) (place ((a + j) % 4))) j) tt a j h k)
 
--- what the pins have turned by leads to the new pins
-pub turned-to : (v w : ℕ) → v < 4 → w < 4 → place ((place v + turned v w) % 4) ≡ w
-turned-to v w h k =
-    eqb→eq (place ((place v + turned v w) % 4)) w (square (λ v w. eqb (place ((place v + turned v w) % 4)) w) tt v w h k)
+-- as many places forward of the old pins are the new pins
+pub places-to : (v w : ℕ) → v < 4 → w < 4 → place ((place v + places v w) % 4) ≡ w
+places-to v w h k =
+    eqb→eq (place ((place v + places v w) % 4)) w (square (λ v w. eqb (place ((place v + places v w) % 4)) w) tt v w h k)
 
-pub turned-lt : (v w : ℕ) → turned v w < 4
-turned-lt v w = omega arith
+pub places-lt : (v w : ℕ) → places v w < 4
+places-lt v w = omega arith
 
 -- both pins changed: two places on
-pub both-is : (v w : ℕ) → v < 4 → w < 4 → num (both v w) ≡ num (eqb (turned v w) 2)
+pub both-is : (v w : ℕ) → v < 4 → w < 4 → num (both v w) ≡ num (eqb (places v w) 2)
 both-is v w h k =
-    eqb→eq (num (both v w)) (num (eqb (turned v w) 2)) (square (λ v w. eqb (num (both v w)) (num (eqb (turned v w) 2))) tt v w h k)
+    eqb→eq (num (both v w)) (num (eqb (places v w) 2)) (square (λ v w. eqb (num (both v w)) (num (eqb (places v w) 2))) tt v w h k)
 
 -- a position that shows the pins v
 pub starts : (v : ℕ) → v < 4 → phase (pos (place v)) ≡ v
@@ -107,8 +107,8 @@ counts (negsuc (suc zero)) h = record { within = omega arith; sum = refl }
 counts (negsuc (suc (suc n))) h = absurd (omega arith)
 
 -- and what its pins show
-pub shown : (p q m : ℤ) → q ≡ p +ℤ m → turned (phase p) (phase q) ≡ quarter m
+pub shown : (p q m : ℤ) → q ≡ p +ℤ m → places (phase p) (phase q) ≡ quarter m
 shown p q m to =
-    ap (λ (a : ℕ). turned a (phase q)) (phase-is p)
-    ∙ ap (λ (b : ℕ). turned (place (quarter p)) b) (phase-is q ∙ ap place (ap quarter to ∙ quarter-add p m))
-    ∙ turned-on (quarter p) (quarter m) (quarter-lt p) (quarter-lt m)
+    ap (λ (a : ℕ). places a (phase q)) (phase-is p)
+    ∙ ap (λ (b : ℕ). places (place (quarter p)) b) (phase-is q ∙ ap place (ap quarter to ∙ quarter-add p m))
+    ∙ places-on (quarter p) (quarter m) (quarter-lt p) (quarter-lt m)

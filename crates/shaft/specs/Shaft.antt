@@ -7,7 +7,7 @@ use mathlib.Core.List.{List, [], _∷_}
 use lib.IntN.{ℤ, pos, negsuc, _+ℤ_, _-ℤ_, natAbs}
 use lib.ListN.{getD}
 use Rattle.bits.specs.Bits.{bit, num, changes}
-use Rattle.encoder.specs.Encoder.{turned}
+use Rattle.encoder.specs.Encoder.{places}
 
 -- ---- the shaft: where it stands is a whole number of quarter-steps, forward upward
 
@@ -81,7 +81,7 @@ stepOf (suc (suc (suc n))) = negsuc 0
 
 abbrev pub stepsFrom : ℕ → List ℕ → ℤ
 stepsFrom v [] = pos 0
-stepsFrom v (w ∷ vs) = stepOf (turned v w) +ℤ stepsFrom w vs
+stepsFrom v (w ∷ vs) = stepOf (places v w) +ℤ stepsFrom w vs
 
 -- the counted steps
 abbrev pub steps : List ℕ → ℤ

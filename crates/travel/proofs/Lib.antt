@@ -1,6 +1,5 @@
 mod Counting
 mod Lists
 mod Banks
-mod Runs
-mod Shown
+mod Pins
 pub mod Proved
