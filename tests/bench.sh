@@ -1,15 +1,40 @@
 #!/usr/bin/env bash
-# The benchmark builds, finds the same answers on both sides, and tells both times and their ratio. The times themselves are no test.
+# The benchmark builds, finds the same answers on both sides, and tells for each row four figures and two ratios. The times are no test.
+# The instructions are, on both sides: beside a second program that had grown slow, any library would look quick.
 set -u
 cd "$(dirname "$0")/.." || exit 2
 . check/tools.sh
 work=$(mktemp -d)
 trap 'rm -rf "$work"' EXIT
 
-must 'bench: the benchmark builds and runs' check/bench.sh 2
+# A row, the most instructions that the second program may take, and the most times as many that the library may.
+limits='pins of one encoder|100|1.00
+pins of ten encoders|100|1.00
+reads|70|1.05
+a mix, waits to 20 ticks|100|1.00
+a mix, waits of any length|100|1.00
+waits only, 20 PWM channels|900|1.30
+the finder, a request|80|1.00'
+
+# at_most NAME MOST GOT: one test. Nothing at all is no figure.
+at_most() {
+    if awk -v most="$2" -v got="${3:-0}" 'BEGIN { exit !(0 < got && got <= most) }'; then
+        echo "ok $1"
+    else
+        echo "FAIL $1"
+        printf '    at most: %s\n    got:     %s\n' "$2" "${3:-}"
+        failed=1
+    fi
+}
+
+must 'bench: the benchmark builds, and finds the same answers on both sides' check/bench.sh 2
 sed 's/^/    /' "$work/out"
-for row in 'pins only' 'a mix, waits to 20 ticks' 'a mix, waits to 300 ticks' 'a mix, waits of any length' \
-    'waits only, of any length' 'reads' 'the finder, a request'; do
-    same "bench: two times and a ratio for $row" 1 "$(grep -cE "^$row +[0-9.]+ ns +[0-9.]+ ns +[0-9.]+\$" "$work/out")"
-done
+while IFS='|' read -r row instructions times_as_many; do
+    line=$(grep -E "^$row( +[0-9]+\.[0-9]+){6}\$" "$work/out")
+    same "bench: four figures and two ratios for $row" 1 "$(grep -c . <<<"$line")"
+    read -r _ _ _ _ second ratio <<<"${line#"$row"}"
+    at_most "bench: instructions of the second program for $row" "$instructions" "${second:-}"
+    at_most "bench: times as many of the library for $row" "$times_as_many" "${ratio:-}"
+done <<<"$limits"
+same 'bench: no other row' "$(wc -l <<<"$limits")" "$(grep -cE '( +[0-9]+\.[0-9]+){6}$' "$work/out")"
 exit $failed

@@ -44,7 +44,7 @@ test_of_the_tests() {
     same 'compare: a driver without a mistake is let pass' '0 0 0' "$(verdict short "$programs/stand-in" none)"
     local mistakes mistake
     mapfile -t mistakes < <("$programs/stand-in" list)
-    same 'compare: there are mistakes to make' 74 ${#mistakes[@]}
+    same 'compare: there are mistakes to make' 80 ${#mistakes[@]}
     for mistake in "${mistakes[@]}"; do
         same "compare: a driver with the mistake $mistake is seen" '1 1 0' "$(verdict short "$programs/stand-in" "$mistake")"
     done

@@ -1,19 +1,25 @@
-//! The library's time beside the reference's, in one process, in turns; the best of many is told.
+//! The library beside the second program: nanoseconds in one process, in turns, and instructions under callgrind.
 //!
-//! usage: bench ROUNDS
+//! usage: bench logs FOLDER           makes what each row is about, a file each
+//!        bench times FOLDER ROUNDS   nanoseconds a record or a request: a line `ROW|LIBRARY|SECOND` for each row
+//!        bench counts FOLDER         instructions, in the same way
+//!        bench runs FOLDER           what `counts` has callgrind watch
 
-use rivandoze_check::generate::{generate, Rng, Settings};
+mod rows;
+
 use rivandoze_check::packed;
-use rivandoze_check::reference::log::{build, READING_LEN, RECORDS_MAX};
-use rivandoze_check::reference::record::{Fields, ENCODER, I2C, PWM, SELECT, TICKS_MAX};
+use rivandoze_check::reference::log::{READING_LEN, RECORDS_MAX};
+use rows::{requests, Row, ROWS};
+use std::path::Path;
+use std::process::Command;
 use std::time::Instant;
+use std::{env, fs};
 
-const ALL_ENCODERS: u64 = 0xAA_AAAA_AAAA;
-const ALL_PWMS: u64 = 0x55_5555_5555;
-const OUT_LEN: usize = RECORDS_MAX * READING_LEN;
-/// Replays of one log between two looks at the clock.
-const REPLAYS: usize = 8;
-const REQUESTS: usize = 4_096;
+/// Rounds between two looks at the clock.
+const AT_A_TIME: u64 = 8;
+/// The rounds of two runs under callgrind. Only their difference is told, so that what a run does but once falls out.
+const FEW: u64 = 1;
+const MORE: u64 = 3;
 
 extern "C" {
     fn rvz_replay(log: *const u8, log_len: usize, out: *mut u8, out_len: usize) -> u64;
@@ -21,196 +27,172 @@ extern "C" {
     fn rvz_find_spi(rate: u64, tolerance: u64) -> u64;
 }
 
-#[inline(never)]
-fn library_replay(log: &[u8], out: &mut [u8]) -> u64 {
+#[derive(Clone, Copy)]
+struct Side {
+    replay: fn(&[u8], &mut [u8]) -> u64,
+    find_pwm: fn(u64, u64) -> u64,
+    find_spi: fn(u64, u64) -> u64,
+}
+
+const LIBRARY: Side = Side {
     // SAFETY: both slices are whole, apart and never null.
-    unsafe { rvz_replay(log.as_ptr(), log.len(), out.as_mut_ptr(), out.len()) }
-}
-
-#[inline(never)]
-fn reference_replay(log: &[u8], out: &mut [u8]) -> u64 {
-    packed::replay(log, out)
-}
-
-#[inline(never)]
-fn library_find(rate: u64, tolerance: u64) -> u64 {
+    replay: |log, out| unsafe { rvz_replay(log.as_ptr(), log.len(), out.as_mut_ptr(), out.len()) },
     // SAFETY: numbers only.
-    unsafe {
+    find_pwm: |rate, tolerance| unsafe { rvz_find_pwm(rate, tolerance) },
+    find_spi: |rate, tolerance| unsafe { rvz_find_spi(rate, tolerance) },
+};
+
+const SECOND: Side = Side {
+    replay: packed::replay,
+    find_pwm: packed::find_pwm,
+    find_spi: packed::find_spi,
+};
+
+/// One row of one side.
+struct Bench {
+    side: Side,
+    finds: bool,
+    asked: Vec<u8>,
+    out: Vec<u8>,
+}
+
+impl Bench {
+    fn new(folder: &Path, row: &Row, side: Side) -> Self {
+        Bench {
+            side,
+            finds: row.finds,
+            asked: fs::read(folder.join(row.name)).expect("what the row is about"),
+            out: vec![0; RECORDS_MAX * READING_LEN],
+        }
+    }
+
+    /// All that is answered, as one number.
+    fn run(&mut self, rounds: u64) -> u64 {
+        let mut answer = 0;
+        for _ in 0..rounds {
+            answer = self.round();
+        }
+        let bytes = self.out.iter();
+        bytes.fold(answer, |sum, &byte| with(sum, byte.into()))
+    }
+
+    fn round(&mut self) -> u64 {
+        if self.finds {
+            return requests(&self.asked).fold(0, |sum, (rate, tolerance)| {
+                with(sum, self.find(rate, tolerance))
+            });
+        }
+        let word = (self.side.replay)(&self.asked, &mut self.out);
+        assert_eq!(word, (RECORDS_MAX as u64) << 8, "not all is applied");
+        word
+    }
+
+    fn find(&self, rate: u64, tolerance: u64) -> u64 {
         if rate > 40_000 {
-            rvz_find_spi(rate, tolerance)
+            (self.side.find_spi)(rate, tolerance)
         } else {
-            rvz_find_pwm(rate, tolerance)
+            (self.side.find_pwm)(rate, tolerance)
         }
     }
 }
 
-#[inline(never)]
-fn reference_find(rate: u64, tolerance: u64) -> u64 {
-    if rate > 40_000 {
-        packed::find_spi(rate, tolerance)
-    } else {
-        packed::find_pwm(rate, tolerance)
-    }
+fn with(sum: u64, answer: u64) -> u64 {
+    sum.rotate_left(7) ^ answer
 }
 
 fn main() {
-    let rounds = std::env::args().nth(1).and_then(|word| word.parse().ok());
-    let rounds: u32 = rounds.expect("usage: bench ROUNDS");
-    println!(
-        "{:<28} {:>10} {:>10} {:>6}",
-        "", "library", "reference", "ratio"
-    );
-    for (name, log) in logs() {
-        measure_replay(name, &log, rounds);
+    let words: Vec<String> = env::args().skip(1).collect();
+    let words: Vec<&str> = words.iter().map(String::as_str).collect();
+    match words[..] {
+        ["logs", folder] => logs(Path::new(folder)),
+        ["times", folder, rounds] => times(Path::new(folder), rounds.parse().expect("ROUNDS")),
+        ["counts", folder] => counts(Path::new(folder)),
+        ["runs", folder] => runs(Path::new(folder)),
+        _ => panic!("the words are none of those that main.rs lists"),
     }
-    measure_finder(rounds);
 }
 
-fn logs() -> [(&'static str, Vec<u8>); 6] {
-    [
-        ("pins only", pins_only()),
-        ("a mix, waits to 20 ticks", mix(20)),
-        ("a mix, waits to 300 ticks", mix(300)),
-        ("a mix, waits of any length", mix(TICKS_MAX)),
-        ("waits only, of any length", waits_only()),
-        ("reads", reads()),
-    ]
+fn logs(folder: &Path) {
+    fs::create_dir_all(folder).expect("the folder");
+    for row in &ROWS {
+        fs::write(folder.join(row.name), (row.make)()).expect("a file of the folder");
+    }
 }
 
-/// All ten encoders in quadrature, walking on and back.
-fn pins_only() -> Vec<u8> {
-    let mut rng = Rng::new(1);
-    let mut records = vec![Fields::write(SELECT, 0, 0, ALL_ENCODERS)];
-    records.extend((0..10).map(|channel| Fields::write(ENCODER, channel, 0, 1)));
-    let mut pins = [0; 10];
-    while records.len() < RECORDS_MAX {
-        let channel = rng.below(10) as usize;
-        pins[channel] ^= rng.pick(&[1, 2]);
-        records.push(Fields::pins(channel as u8, pins[channel]));
+/// The best of all turns of each side.
+fn times(folder: &Path, rounds: u64) {
+    for row in &ROWS {
+        let mut sides = [LIBRARY, SECOND].map(|side| Bench::new(folder, row, side));
+        assert_same(row, sides.iter_mut().map(|bench| bench.run(1)));
+        let mut best = [f64::INFINITY; 2];
+        for _ in 0..rounds {
+            for (bench, best) in sides.iter_mut().zip(&mut best) {
+                let start = Instant::now();
+                for _ in 0..AT_A_TIME {
+                    bench.round();
+                }
+                *best = best.min(start.elapsed().as_secs_f64());
+            }
+        }
+        tell(row, best.map(|seconds| seconds * 1e9 / AT_A_TIME as f64));
     }
-    log_of(&records)
 }
 
-fn mix(most_ticks: u64) -> Vec<u8> {
-    let settings = Settings {
-        least_records: RECORDS_MAX,
-        most_ticks,
-        refused_percent: 0,
-        notes_percent: 0,
-        ..Settings::default()
-    };
-    generate(2, &settings)
-}
-
-/// All twenty PWM channels at once.
-fn waits_only() -> Vec<u8> {
-    let mut rng = Rng::new(5);
-    let mut records = vec![Fields::write(SELECT, 0, 0, ALL_PWMS)];
-    for channel in 0..20 {
-        let cnfg = rng.pick(&[0, 4, 5]);
-        let values = [
-            cnfg,
-            rng.between(1, 7),
-            rng.below(65_536),
-            rng.below(65_536),
-        ];
-        let writes = (0..4).zip(values);
-        records
-            .extend(writes.map(|(register, value)| Fields::write(PWM, channel, register, value)));
-    }
-    while records.len() < RECORDS_MAX - 40 {
-        records.push(Fields::ticks(rng.between(0, TICKS_MAX)));
-    }
-    for channel in 0..20 {
-        records.extend([4, 5].map(|register| Fields::read(PWM, channel, register)));
-    }
-    log_of(&records)
-}
-
-fn reads() -> Vec<u8> {
-    let mut rng = Rng::new(3);
-    let records: Vec<Fields> = (0..RECORDS_MAX)
-        .map(|_| match rng.below(8) {
-            0 => Fields::read(SELECT, 0, 0),
-            1 => Fields::read(I2C, 0, rng.pick(&[0, 1, 3])),
-            2..=4 => Fields::read(ENCODER, rng.below(10) as u8, rng.below(3) as u8),
-            _ => Fields::read(PWM, rng.below(20) as u8, rng.below(6) as u8),
-        })
+/// Callgrind begins anew before each call of `counted`, and writes down its total behind it.
+fn counts(folder: &Path) {
+    let file = folder.join("callgrind");
+    let output = Command::new("valgrind")
+        .args(["--tool=callgrind", "--combine-dumps=yes", "--dump-line=no"])
+        .args(["--zero-before=counted", "--dump-after=counted"])
+        .arg(format!("--callgrind-out-file={}", file.display()))
+        .arg(env::current_exe().expect("this program"))
+        .arg("runs")
+        .arg(folder)
+        .output()
+        .expect("valgrind");
+    let said = String::from_utf8_lossy(&output.stderr);
+    assert!(output.status.success(), "{said}");
+    let written = fs::read_to_string(file).expect("what callgrind has written");
+    let totals: Vec<f64> = written
+        .lines()
+        .filter_map(|line| line.strip_prefix("totals: "))
+        .map(|total| total.parse().expect("a total"))
         .collect();
-    log_of(&records)
-}
-
-fn log_of(records: &[Fields]) -> Vec<u8> {
-    let bytes: Vec<_> = records.iter().map(|fields| fields.to_bytes()).collect();
-    build(&[], &bytes)
-}
-
-type Replay = fn(&[u8], &mut [u8]) -> u64;
-
-fn measure_replay(name: &str, log: &[u8], rounds: u32) {
-    let replays: [Replay; 2] = [library_replay, reference_replay];
-    let mut outs = [vec![0; OUT_LEN], vec![0; OUT_LEN]];
-    let words = [0, 1].map(|which: usize| replays[which](log, &mut outs[which]));
-    assert_eq!(
-        words,
-        [(RECORDS_MAX as u64) << 8; 2],
-        "{name}: not all applied"
-    );
-    assert!(outs[0] == outs[1], "{name}: not the same readings");
-
-    let best = best_in_turns(rounds, |which| {
-        for _ in 0..REPLAYS {
-            assert_eq!(replays[which](log, &mut outs[which]), words[which]);
-        }
-    });
-    tell(name, best, REPLAYS * RECORDS_MAX);
-}
-
-type Find = fn(u64, u64) -> u64;
-
-fn measure_finder(rounds: u32) {
-    let finds: [Find; 2] = [library_find, reference_find];
-    let requests = requests();
-    let sum = |find: Find| {
-        let answers = requests
-            .iter()
-            .map(|&(rate, tolerance)| find(rate, tolerance));
-        answers.fold(0, u64::wrapping_add)
-    };
-    let wanted = sum(reference_find);
-    let best = best_in_turns(rounds, |which| assert_eq!(sum(finds[which]), wanted));
-    tell("the finder, a request", best, REQUESTS);
-}
-
-/// Half of the rates for PWM, half for SPI, as many of each size.
-fn requests() -> Vec<(u64, u64)> {
-    let mut rng = Rng::new(4);
-    let mut one = |index: usize| {
-        let (least, most) = [(40, 40_000), (40_001, 4_000_000)][index % 2];
-        let most = most.min(least << rng.below(12));
-        (
-            rng.between(least, most),
-            rng.pick(&[0, 100, 10_000, 1_000_000]),
-        )
-    };
-    (0..REQUESTS).map(|index| one(index)).collect()
-}
-
-/// The least seconds of the library's turns and of the reference's.
-fn best_in_turns(rounds: u32, mut turn: impl FnMut(usize)) -> [f64; 2] {
-    let mut best = [f64::INFINITY; 2];
-    for _ in 0..rounds {
-        for (which, best) in best.iter_mut().enumerate() {
-            let start = Instant::now();
-            turn(which);
-            *best = best.min(start.elapsed().as_secs_f64());
-        }
+    // The last one is of the program's end.
+    assert_eq!(totals.len(), 4 * ROWS.len() + 1, "{said}");
+    for (row, totals) in ROWS.iter().zip(totals.chunks_exact(4)) {
+        let more = [totals[1] - totals[0], totals[3] - totals[2]];
+        tell(row, more.map(|more| more / (MORE - FEW) as f64));
     }
-    best
 }
 
-fn tell(name: &str, best: [f64; 2], parts: usize) {
-    let [library, reference] = best.map(|seconds| seconds * 1e9 / parts as f64);
-    let ratio = library / reference;
-    println!("{name:<28} {library:>7.1} ns {reference:>7.1} ns {ratio:>6.2}");
+/// Each row by the library, by a few rounds and by more, and by the second program.
+fn runs(folder: &Path) {
+    for row in &ROWS {
+        let answers = [LIBRARY, SECOND].map(|side| {
+            let mut bench = Bench::new(folder, row, side);
+            [FEW, MORE].map(|rounds| counted(&mut bench, rounds))
+        });
+        assert_same(row, answers.concat());
+    }
+}
+
+/// Callgrind knows it by its name.
+#[no_mangle]
+#[inline(never)]
+fn counted(bench: &mut Bench, rounds: u64) -> u64 {
+    bench.run(rounds)
+}
+
+fn assert_same(row: &Row, answers: impl IntoIterator<Item = u64>) {
+    let mut answers = answers.into_iter();
+    let first = answers.next();
+    let same = answers.all(|answer| Some(answer) == first);
+    assert!(same, "{}: not the same answers", row.name);
+}
+
+/// What a round of the library took, and one of the second program.
+fn tell(row: &Row, taken: [f64; 2]) {
+    let [library, second] = taken.map(|taken| taken / row.parts() as f64);
+    println!("{}|{library:.1}|{second:.1}", row.name);
 }

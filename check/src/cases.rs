@@ -8,7 +8,7 @@ mod in_order;
 use crate::exchange::{Request, PLACES};
 use crate::generate::Rng;
 use crate::reference::log::{records, READING_LEN, RECORDS_MAX};
-use crate::reference::record::READ;
+use crate::reference::record::{Fields, ENCODER, I2C, PWM, READ, SELECT};
 
 /// How many requests a family makes, where it could make any number.
 #[derive(Debug, Clone, Copy, PartialEq, Eq)]
@@ -75,6 +75,7 @@ pub const FAMILIES: &[Family] = &[
     family!("every mark", false, in_order::marks),
     family!("outputs of every length", false, in_order::outputs),
     family!("every access", false, in_order::accesses),
+    family!("every bit of a record", false, in_order::bits),
     family!("every five pins", false, in_order::pins),
     family!("every small PWM", false, in_order::pwms),
     family!("waits to every edge", false, in_order::waits),
@@ -103,6 +104,20 @@ fn lent_well(log: Vec<u8>, rng: &mut Rng) -> Request {
         _ => needed,
     };
     lent(log, out_len, rng)
+}
+
+/// A read of each register that can be read, of each channel.
+fn all_reads() -> impl Iterator<Item = Fields> {
+    let of = |block, channels: u8, registers: &'static [u8]| {
+        (0..channels).flat_map(move |channel| {
+            let read = move |&register| Fields::read(block, channel, register);
+            registers.iter().map(read)
+        })
+    };
+    of(SELECT, 1, &[0])
+        .chain(of(ENCODER, 10, &[0, 1, 2]))
+        .chain(of(PWM, 20, &[0, 1, 2, 3, 4, 5]))
+        .chain(of(I2C, 1, &[0, 1, 3]))
 }
 
 /// What refusal 6 asks of the output; little where it does not come to that.

@@ -1,10 +1,10 @@
 //! Families that are never done.
 
-use super::{lent, lent_well, Requests, Size};
+use super::{all_reads, lent, lent_well, Requests, Size};
 use crate::generate::{change_bytes, damage, flip_bits, generate, wait, Rng, Settings};
 use crate::reference::log::{build, Trailer, LOG_MAX, RECORDS_MAX, TRAILER_LEN};
 use crate::reference::pwm::Pwm;
-use crate::reference::record::{Fields, ENCODER, I2C, PWM, RECORD_LEN, SELECT, TICKS_MAX};
+use crate::reference::record::{Fields, PWM, RECORD_LEN, SELECT, TICKS_MAX};
 use crate::reference::Bank;
 
 /// The longest wait, by turns: short ones meet every edge of small MAX and CMP.
@@ -45,20 +45,6 @@ fn with_end_read(log: &[u8]) -> Vec<u8> {
     let reads: Vec<_> = all_reads().take(room).map(Fields::to_bytes).collect();
     let distance = trailer.distance + (reads.len() * RECORD_LEN) as u32;
     [in_front, &reads.concat(), &Trailer::of(distance).to_bytes()].concat()
-}
-
-/// A read of each register that can be read, of each channel.
-fn all_reads() -> impl Iterator<Item = Fields> {
-    let of = |block, channels: u8, registers: &'static [u8]| {
-        (0..channels).flat_map(move |channel| {
-            let read = move |&register| Fields::read(block, channel, register);
-            registers.iter().map(read)
-        })
-    };
-    of(SELECT, 1, &[0])
-        .chain(of(ENCODER, 10, &[0, 1, 2]))
-        .chain(of(PWM, 20, &[0, 1, 2, 3, 4, 5]))
-        .chain(of(I2C, 1, &[0, 1, 3]))
 }
 
 fn short_log(rng: &mut Rng) -> Vec<u8> {
@@ -222,8 +208,7 @@ fn pwm_write(channel: u8, register: u8, rng: &mut Rng) -> Fields {
 fn pwm_after(records: &[Fields], channel: u8) -> Pwm {
     let mut bank = Bank::default();
     for fields in records {
-        let record = fields.decode().expect("a record of this family");
-        bank.apply(record).expect("a record of this family");
+        bank.apply(fields).expect("a record of this family");
     }
     bank.pwms[usize::from(channel)].clone()
 }

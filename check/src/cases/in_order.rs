@@ -1,6 +1,6 @@
 //! Families that go through everything of a kind.
 
-use super::{lent, lent_well, needed, Requests, Size};
+use super::{all_reads, lent, lent_well, needed, Requests, Size};
 use crate::exchange::{Request, PLACES};
 use crate::generate::{generate, Rng, Settings};
 use crate::reference::log::{build, Trailer, EDITION, LOG_MAX, MARK, RECORDS_MAX, TRAILER_LEN};
@@ -239,6 +239,56 @@ pub fn accesses(mut rng: Rng, size: Size) -> Requests {
         let log = log_of(&[Fields::write(SELECT, 0, 0, select), access, again]);
         lent_well(log, &mut rng)
     }))
+}
+
+/// A record of each kind for each register, with every one of its bits turned over; then what shows
+/// what has become of the bank.
+pub fn bits(mut rng: Rng, _: Size) -> Requests {
+    let turned = one_of_each().into_iter().flat_map(|fields| {
+        let right = u128::from_le_bytes(fields.to_bytes());
+        (0..u128::BITS).map(move |bit| (right ^ 1 << bit).to_le_bytes())
+    });
+    Box::new(turned.map(move |turned| {
+        let mut records: Vec<_> = all_on().into_iter().map(Fields::to_bytes).collect();
+        records.push(turned);
+        let more = [Fields::pins(ON_ENCODER, 3), Fields::ticks(77)];
+        records.extend(more.into_iter().chain(all_reads()).map(Fields::to_bytes));
+        lent_well(build(&[], &records), &mut rng)
+    }))
+}
+
+const ON_ENCODER: u8 = 2;
+const ON_PWM: u8 = 9;
+
+/// Encoders, PWM channels and I2C routed side by side, and one of each at work.
+fn all_on() -> Vec<Fields> {
+    let select = 0xAAAA | 0x555 << 16 | I2C_PINS | 0x55 << 32;
+    vec![
+        Fields::write(SELECT, 0, 0, select),
+        Fields::write(ENCODER, ON_ENCODER, 0, 1),
+        Fields::pins(ON_ENCODER, 0),
+        Fields::write(PWM, ON_PWM, 0, 4),
+        Fields::write(PWM, ON_PWM, 1, 2),
+        Fields::write(PWM, ON_PWM, 2, 40),
+        Fields::write(PWM, ON_PWM, 3, 20),
+        Fields::ticks(33),
+        Fields::write(I2C, 0, 0, 8),
+        Fields::write(I2C, 0, 1, 0b0011),
+    ]
+}
+
+/// Each is applied behind those.
+fn one_of_each() -> Vec<Fields> {
+    let mut records = all_on();
+    records.push(Fields::write(PWM, ON_PWM, 0, 5));
+    records.push(Fields::write(I2C, 0, 2, 1));
+    records.push(Fields::pins(ON_ENCODER, 1));
+    records.extend(all_reads().filter(|read| match read.block {
+        ENCODER => read.channel == ON_ENCODER,
+        PWM => read.channel == ON_PWM,
+        _ => true,
+    }));
+    records
 }
 
 /// Every setting of EN, RST and MODE with every five pins, read after each.

@@ -59,10 +59,8 @@ impl Maker {
         if self.records.len() >= self.limit {
             return;
         }
-        if let Ok(record) = fields.decode() {
-            // A refusal leaves the bank as it is, and a reading is not needed here.
-            let _ = self.bank.apply(record);
-        }
+        // A refusal leaves the bank as it is, and a reading is not needed here.
+        let _ = self.bank.apply(&fields);
         self.records.push(fields.to_bytes());
     }
 

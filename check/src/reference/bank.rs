@@ -1,10 +1,12 @@
 //! One bank: what each record does to it.
 
-use super::encoder::{Encoder, PINS_MAX};
+use super::encoder::{self, Encoder};
 use super::i2c::I2c;
 use super::pwm::Pwm;
-use super::record::{ReadFrom, Record, WriteTo, TICKS_MAX};
-use super::refusal::{Refusal, GO_NOT_ALLOWED, NOT_ROUTED, SELECT_NOT_ALLOWED, VALUE_OUT_OF_RANGE};
+use super::record::{Fields, ENCODER, I2C, PINS, PWM, READ, SELECT, TICKS, TICKS_MAX, WRITE};
+use super::refusal::{
+    check, Refusal, NOT_ROUTED, RECORD_UNKNOWN, SELECT_NOT_ALLOWED, VALUE_OUT_OF_RANGE,
+};
 use super::select::Select;
 
 pub const ENCODERS: usize = 10;
@@ -20,47 +22,49 @@ pub struct Bank {
 
 impl Bank {
     /// Applies one record and gives its reading, if it is a read. A refused record changes nothing.
-    pub fn apply(&mut self, record: Record) -> Result<Option<u64>, Refusal> {
-        match record {
-            Record::Write(to, value) => self.write(to, value)?,
-            Record::Read(from) => return Ok(Some(self.read(from))),
-            Record::Pins(channel, value) => self.pins(channel, value)?,
-            Record::Ticks(value) => self.ticks(value)?,
+    // Inlined, as are reads and pins, so that the walk over a log has no call for these.
+    #[inline(always)]
+    pub fn apply(&mut self, record: &Fields) -> Result<Option<u64>, Refusal> {
+        let (block, channel, register) = record.place();
+        check(record.reserved == [0; 4], RECORD_UNKNOWN)?;
+        match record.kind {
+            WRITE => self.write(block, channel, register, record.value)?,
+            READ if record.value == 0 => {
+                let reading = self.read(block, channel, register);
+                return reading.map(Some).ok_or(RECORD_UNKNOWN);
+            }
+            PINS if (block, register) == (ENCODER, 0) => self.pins(channel, record.value)?,
+            TICKS if (block, channel, register) == (0, 0, 0) => self.ticks(record.value)?,
+            _ => return Err(RECORD_UNKNOWN),
         }
         Ok(None)
     }
 
-    fn write(&mut self, to: WriteTo, value: u64) -> Result<(), Refusal> {
-        check(to.takes(value), VALUE_OUT_OF_RANGE)?;
-        check(self.routed(to), NOT_ROUTED)?;
-        // The range check above makes every narrowing exact.
-        match to {
-            WriteTo::Select => return self.write_select(Select(value)),
-            WriteTo::EncoderCnfg(channel) => self.encoders[channel].write_cnfg(value as u8),
-            WriteTo::PwmCnfg(channel) => self.pwms[channel].write_cnfg(value as u8),
-            WriteTo::PwmCs(channel) => self.pwms[channel].write_cs(value as u8),
-            WriteTo::PwmMax(channel) => self.pwms[channel].max = value as u16,
-            WriteTo::PwmCmp(channel) => self.pwms[channel].cmp = value as u16,
-            WriteTo::I2cAddr => self.i2c.addr = value as u8,
-            WriteTo::I2cCntl => self.i2c.cntl = value as u8,
-            WriteTo::I2cGo => self.i2c.state = self.i2c.after_go().ok_or(GO_NOT_ALLOWED)?,
-        }
-        Ok(())
-    }
-
-    fn routed(&self, to: WriteTo) -> bool {
-        match to {
-            WriteTo::Select => true,
-            WriteTo::EncoderCnfg(channel) => self.select.encoder_routed(channel),
-            WriteTo::PwmCnfg(channel)
-            | WriteTo::PwmCs(channel)
-            | WriteTo::PwmMax(channel)
-            | WriteTo::PwmCmp(channel) => self.select.pwm_routed(channel),
-            WriteTo::I2cAddr | WriteTo::I2cCntl | WriteTo::I2cGo => self.select.i2c_routed(),
+    fn write(
+        &mut self,
+        block: u8,
+        channel: usize,
+        register: u8,
+        value: u64,
+    ) -> Result<(), Refusal> {
+        match block {
+            SELECT if (channel, register) == (0, 0) => self.write_select(value),
+            ENCODER => {
+                let encoder = self.encoders.get_mut(channel).ok_or(RECORD_UNKNOWN)?;
+                encoder.write(register, value, self.select.encoder_routed(channel))
+            }
+            PWM => {
+                let pwm = self.pwms.get_mut(channel).ok_or(RECORD_UNKNOWN)?;
+                pwm.write(register, value, self.select.pwm_routed(channel))
+            }
+            I2C if channel == 0 => self.i2c.write(register, value, self.select.i2c_routed()),
+            _ => Err(RECORD_UNKNOWN),
         }
     }
 
-    fn write_select(&mut self, select: Select) -> Result<(), Refusal> {
+    fn write_select(&mut self, value: u64) -> Result<(), Refusal> {
+        check(Select::fits(value), VALUE_OUT_OF_RANGE)?;
+        let select = Select(value);
         check(select.allowed(), SELECT_NOT_ALLOWED)?;
         for channel in select.newly_routed_encoders(self.select) {
             self.encoders[channel].forget_pins();
@@ -69,44 +73,34 @@ impl Bank {
         Ok(())
     }
 
-    fn read(&self, from: ReadFrom) -> u64 {
-        match from {
-            ReadFrom::Select => self.select.0,
-            ReadFrom::EncoderCnfg(channel) => self.encoders[channel].cnfg.into(),
-            ReadFrom::EncoderStat(channel) => self.encoders[channel].stat.into(),
-            ReadFrom::EncoderCntr(channel) => self.encoders[channel].cntr(),
-            ReadFrom::PwmCnfg(channel) => self.pwms[channel].cnfg.into(),
-            ReadFrom::PwmCs(channel) => self.pwms[channel].cs.into(),
-            ReadFrom::PwmMax(channel) => self.pwms[channel].max.into(),
-            ReadFrom::PwmCmp(channel) => self.pwms[channel].cmp.into(),
-            ReadFrom::PwmCntr(channel) => self.pwms[channel].counter.into(),
-            ReadFrom::PwmLevel(channel) => self.pwms[channel].output.into(),
-            ReadFrom::I2cAddr => self.i2c.addr.into(),
-            ReadFrom::I2cCntl => self.i2c.cntl.into(),
-            ReadFrom::I2cState => self.i2c.state as u64,
+    /// The reading, or nothing where no such register can be read.
+    #[inline(always)]
+    fn read(&self, block: u8, channel: usize, register: u8) -> Option<u64> {
+        match block {
+            SELECT if (channel, register) == (0, 0) => Some(self.select.0),
+            ENCODER => self.encoders.get(channel)?.read(register),
+            PWM => self.pwms.get(channel)?.read(register),
+            I2C if channel == 0 => self.i2c.read(register),
+            _ => None,
         }
     }
 
+    #[inline(always)]
     fn pins(&mut self, channel: usize, value: u64) -> Result<(), Refusal> {
-        check(value <= PINS_MAX, VALUE_OUT_OF_RANGE)?;
+        let encoder = self.encoders.get_mut(channel).ok_or(RECORD_UNKNOWN)?;
+        check(value <= encoder::PINS_MAX, VALUE_OUT_OF_RANGE)?;
         check(self.select.encoder_routed(channel), NOT_ROUTED)?;
-        self.encoders[channel].pins(value as u8);
+        encoder.pins(value as u8);
         Ok(())
     }
 
     fn ticks(&mut self, value: u64) -> Result<(), Refusal> {
         check(value <= TICKS_MAX, VALUE_OUT_OF_RANGE)?;
-        for channel in self.select.routed_pwms() {
-            self.pwms[channel].ticks(value as u32);
+        for (pwm, routed) in self.pwms.iter_mut().zip(self.select.pwms()) {
+            if routed {
+                pwm.ticks(value as u32);
+            }
         }
         Ok(())
-    }
-}
-
-fn check(holds: bool, refusal: Refusal) -> Result<(), Refusal> {
-    if holds {
-        Ok(())
-    } else {
-        Err(refusal)
     }
 }

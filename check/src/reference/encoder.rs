@@ -1,5 +1,11 @@
 //! One encoder channel.
 
+use super::refusal::{check, Refusal, NOT_ROUTED, RECORD_UNKNOWN, VALUE_OUT_OF_RANGE};
+
+pub const CNFG: u8 = 0;
+pub const STAT: u8 = 1;
+pub const CNTR: u8 = 2;
+
 pub const EN: u8 = 1 << 0;
 pub const RST: u8 = 1 << 1;
 pub const MODE: u8 = 1 << 2;
@@ -18,9 +24,6 @@ const OVERFLOWS: u8 = UOVR | SOVR | UOERR | SOERR;
 pub const A: u8 = 1 << 0;
 pub const B: u8 = 1 << 1;
 pub const PINS_MAX: u64 = 3;
-
-/// The place of each pair of pins on the forward round 00, 10, 11, 01 (written A first).
-const PLACE: [u8; 4] = [0, 1, 3, 2];
 
 /// What a change of pins asks of the count.
 #[derive(Debug, Clone, Copy, PartialEq, Eq)]
@@ -41,6 +44,24 @@ pub struct Encoder {
 }
 
 impl Encoder {
+    #[inline]
+    pub fn read(&self, register: u8) -> Option<u64> {
+        match register {
+            CNFG => Some(self.cnfg.into()),
+            STAT => Some(self.stat.into()),
+            CNTR => Some(self.cntr()),
+            _ => None,
+        }
+    }
+
+    pub fn write(&mut self, register: u8, value: u64, routed: bool) -> Result<(), Refusal> {
+        check(register == CNFG, RECORD_UNKNOWN)?;
+        check(value <= CNFG_MAX, VALUE_OUT_OF_RANGE)?;
+        check(routed, NOT_ROUTED)?;
+        self.write_cnfg(value as u8);
+        Ok(())
+    }
+
     pub fn write_cnfg(&mut self, cnfg: u8) {
         let risen = cnfg & !self.cnfg;
         let changed = cnfg ^ self.cnfg;
@@ -63,6 +84,7 @@ impl Encoder {
         self.seen = None;
     }
 
+    #[inline(always)]
     pub fn pins(&mut self, new: u8) {
         if self.cnfg & EN == 0 {
             return;
@@ -91,12 +113,12 @@ impl Encoder {
         u64::from(self.count as u32)
     }
 
+    #[inline]
     fn step_forward(&mut self) {
-        if self.count == -1 {
-            self.overflow(UOVR, UOERR);
-        }
-        if self.count == i32::MAX {
-            self.overflow(SOVR, SOERR);
+        match self.count {
+            -1 => self.overflow(UOVR, UOERR),
+            i32::MAX => self.overflow(SOVR, SOERR),
+            _ => {}
         }
         self.count = self.count.wrapping_add(1);
         self.stat &= !DIR;
@@ -113,13 +135,17 @@ impl Encoder {
 }
 
 fn quadrature(old: u8, new: u8) -> Turn {
-    let places = PLACE[usize::from(new)].wrapping_sub(PLACE[usize::from(old)]) % 4;
-    match places {
+    match place(new).wrapping_sub(place(old)) % 4 {
         0 => Turn::Still,
         1 => Turn::Forward,
         2 => Turn::Double,
         _ => Turn::Back,
     }
+}
+
+/// The place of the pins on the forward round 00, 10, 11, 01 (A first), which is a Gray code.
+fn place(pins: u8) -> u8 {
+    pins ^ (pins >> 1)
 }
 
 fn step_and_direction(old: u8, new: u8) -> Turn {

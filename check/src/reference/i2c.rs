@@ -1,5 +1,14 @@
 //! The I2C control sequencer.
 
+use super::refusal::{
+    check, Refusal, GO_NOT_ALLOWED, NOT_ROUTED, RECORD_UNKNOWN, VALUE_OUT_OF_RANGE,
+};
+
+pub const ADDR: u8 = 0;
+pub const CNTL: u8 = 1;
+pub const GO: u8 = 2;
+pub const STATE: u8 = 3;
+
 pub const RECEIVE: u8 = 1 << 0;
 pub const ADDR_MAX: u64 = 255;
 
@@ -9,7 +18,7 @@ pub const STOP: u8 = 1 << 2;
 pub const ACK: u8 = 1 << 3;
 pub const CNTL_MAX: u64 = 15;
 
-pub const GO: u64 = 1;
+pub const GO_VALUE: u64 = 1;
 
 #[derive(Debug, Clone, Copy, PartialEq, Eq, Default)]
 pub enum State {
@@ -27,6 +36,33 @@ pub struct I2c {
 }
 
 impl I2c {
+    #[inline]
+    pub fn read(&self, register: u8) -> Option<u64> {
+        match register {
+            ADDR => Some(self.addr.into()),
+            CNTL => Some(self.cntl.into()),
+            STATE => Some(self.state as u64),
+            _ => None,
+        }
+    }
+
+    pub fn write(&mut self, register: u8, value: u64, routed: bool) -> Result<(), Refusal> {
+        let fits = match register {
+            ADDR => value <= ADDR_MAX,
+            CNTL => value <= CNTL_MAX,
+            GO => value == GO_VALUE,
+            _ => return Err(RECORD_UNKNOWN),
+        };
+        check(fits, VALUE_OUT_OF_RANGE)?;
+        check(routed, NOT_ROUTED)?;
+        match register {
+            ADDR => self.addr = value as u8,
+            CNTL => self.cntl = value as u8,
+            _ => self.state = self.after_go().ok_or(GO_NOT_ALLOWED)?,
+        }
+        Ok(())
+    }
+
     /// The state that GO would end in, or nothing if the control code is not allowed.
     pub fn after_go(&self) -> Option<State> {
         let set = |bit| self.cntl & bit != 0;

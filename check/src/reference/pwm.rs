@@ -1,6 +1,14 @@
 //! One PWM channel.
 
 use super::clock::divider;
+use super::refusal::{check, Refusal, NOT_ROUTED, RECORD_UNKNOWN, VALUE_OUT_OF_RANGE};
+
+pub const CNFG: u8 = 0;
+pub const CS: u8 = 1;
+pub const MAX: u8 = 2;
+pub const CMP: u8 = 3;
+pub const CNTR: u8 = 4;
+pub const LEVEL: u8 = 5;
 
 pub const INV: u8 = 1 << 0;
 pub const MODE: u8 = 1 << 2;
@@ -24,6 +32,37 @@ pub fn cnfg_fits(value: u64) -> bool {
 }
 
 impl Pwm {
+    #[inline]
+    pub fn read(&self, register: u8) -> Option<u64> {
+        Some(match register {
+            CNFG => self.cnfg.into(),
+            CS => self.cs.into(),
+            MAX => self.max.into(),
+            CMP => self.cmp.into(),
+            CNTR => self.counter.into(),
+            LEVEL => self.output.into(),
+            _ => return None,
+        })
+    }
+
+    pub fn write(&mut self, register: u8, value: u64, routed: bool) -> Result<(), Refusal> {
+        let fits = match register {
+            CNFG => cnfg_fits(value),
+            CS => value <= CS_MAX,
+            MAX | CMP => value <= COUNTER_MAX.into(),
+            _ => return Err(RECORD_UNKNOWN),
+        };
+        check(fits, VALUE_OUT_OF_RANGE)?;
+        check(routed, NOT_ROUTED)?;
+        match register {
+            CNFG => self.write_cnfg(value as u8),
+            CS => self.write_cs(value as u8),
+            MAX => self.max = value as u16,
+            _ => self.cmp = value as u16,
+        }
+        Ok(())
+    }
+
     pub fn write_cnfg(&mut self, cnfg: u8) {
         self.cnfg = cnfg;
         if !self.generates() {
@@ -38,14 +77,15 @@ impl Pwm {
 
     /// `count` ticks at once. A wait of any length costs the same.
     pub fn ticks(&mut self, count: u32) {
-        let n = match divider(self.cs.into()) {
-            Some(n) => n,
-            None => return,
-        };
+        if self.cs == 0 {
+            return;
+        }
+        // N is two to this power, so that a mask and a shift divide.
+        let power = u32::from(self.cs) - 1;
         let total = u64::from(self.remainder) + u64::from(count);
-        // Every N is a power of two, so that a mask and a shift divide.
-        self.remainder = (total & (n - 1)) as u8;
-        self.steps(total >> n.trailing_zeros());
+        self.remainder = (total & ((1 << power) - 1)) as u8;
+        // With N 1 there is no remainder, so that the steps fit in 32 bits.
+        self.steps((total >> power) as u32);
     }
 
     /// The same as [`Pwm::ticks`], one tick after another as paper 01 says it.
@@ -84,26 +124,26 @@ impl Pwm {
         }
     }
 
-    fn steps(&mut self, count: u64) {
-        let (start, top) = (u64::from(self.counter), u64::from(self.top()));
-        let until_zero = top.saturating_sub(start) + 1;
-        let met_zero = count >= until_zero;
-        let end = if met_zero {
-            (count - until_zero) % (top + 1)
-        } else {
-            start + count
-        };
-        // At most the top, or the old counter.
-        self.counter = end as u16;
+    fn steps(&mut self, count: u32) {
         if !self.generates() {
+            // 65,535 is the top: the counter goes round by itself.
+            self.counter = self.counter.wrapping_add(count as u16);
             return;
         }
-        let cmp = u64::from(self.cmp);
-        if met_zero {
+        let (start, top) = (u32::from(self.counter), u32::from(self.max));
+        let cmp = u32::from(self.cmp);
+        let until_zero = top.saturating_sub(start) + 1;
+        if count < until_zero {
+            let end = start + count;
+            self.counter = end as u16;
+            if start < cmp && cmp <= end {
+                self.output = self.inverted();
+            }
+        } else {
+            let end = (count - until_zero) % (top + 1);
+            self.counter = end as u16;
             // Only the arrivals since the last 0 matter: 0 itself decides the output anew.
             self.output = self.inverted() == (cmp <= end);
-        } else if start < cmp && cmp <= end {
-            self.output = self.inverted();
         }
     }
 

@@ -34,3 +34,11 @@ pub const TOLERANCE_TOO_WIDE: Refusal = 13;
 pub const NO_PAIR: Refusal = 14;
 /// The divider choice is 0 or above 7, or X is above 65,535.
 pub const REGISTERS_OUT_OF_RANGE: Refusal = 15;
+
+pub fn check(holds: bool, refusal: Refusal) -> Result<(), Refusal> {
+    if holds {
+        Ok(())
+    } else {
+        Err(refusal)
+    }
+}

@@ -1,5 +1,8 @@
 //! Function select: two bits per pin, pin 0 lowest.
 
+use std::iter;
+use std::num::NonZeroU64;
+
 const USED_BITS: u32 = 40;
 
 /// The lower function bit of every pin. Sets of pins are written in these places.
@@ -50,9 +53,14 @@ impl Select {
         places(self.encoder_pairs() & !before.encoder_pairs()).map(|place| place / 4)
     }
 
-    /// The channels of all PWMs that are routed.
-    pub fn routed_pwms(self) -> impl Iterator<Item = usize> {
-        places(self.low() & !self.high()).map(|place| place / 2)
+    /// Whether each PWM channel is routed, in order.
+    pub fn pwms(self) -> impl Iterator<Item = bool> {
+        let mut pins = self.low() & !self.high();
+        iter::from_fn(move || {
+            let routed = pins & 1 != 0;
+            pins >>= 2;
+            Some(routed)
+        })
     }
 
     /// The first pins of all pairs that are used as encoders.
@@ -76,9 +84,9 @@ fn all_or_none(pins: u64, group: u64) -> bool {
 
 /// The places of the bits that are 1, lowest first.
 fn places(mut bits: u64) -> impl Iterator<Item = usize> {
-    std::iter::from_fn(move || {
-        let place = bits.trailing_zeros();
-        bits &= bits.checked_sub(1)?;
-        Some(place as usize)
+    iter::from_fn(move || {
+        let left = NonZeroU64::new(bits)?;
+        bits &= bits - 1;
+        Some(left.trailing_zeros() as usize)
     })
 }

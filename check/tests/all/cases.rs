@@ -4,7 +4,7 @@ use rivandoze_check::cases::{Size, FAMILIES};
 use rivandoze_check::exchange::{Answer, Request, PLACES};
 use rivandoze_check::packed;
 use rivandoze_check::reference::log::{records, RECORDS_MAX};
-use rivandoze_check::reference::record::{Fields, Record, TICKS_MAX};
+use rivandoze_check::reference::record::{Fields, TICKS, TICKS_MAX};
 use rivandoze_check::reference::Bank;
 use std::collections::BTreeSet;
 
@@ -70,6 +70,22 @@ fn end_states_are_read_whole() {
     );
 }
 
+/// Behind ten records that are applied stands one with a bit turned over: each bit of 26 records.
+#[test]
+fn every_bit_of_a_record_is_turned() {
+    let name = "every bit of a record";
+    let family = FAMILIES.iter().find(|family| family.name == name);
+    let (mut logs, mut refusals) = (0, BTreeSet::new());
+    for request in family.expect(name).requests(1, Size::Short) {
+        let word = packed::replay(&request.log, &mut [0; RECORDS_MAX * 8]);
+        assert!(word >> 8 >= 10, "{word:#x}");
+        logs += 1;
+        refusals.insert(word & 0xFF);
+    }
+    assert_eq!(logs, 26 * 128);
+    assert_eq!(refusals, BTreeSet::from([0, 7, 8, 9, 10]));
+}
+
 #[test]
 fn outputs_are_enough_to_the_byte_or_one_byte_short() {
     let mut met = BTreeSet::new();
@@ -91,17 +107,15 @@ fn waits_of_every_length_come_up() {
     for request in short() {
         let mut bank = Bank::default();
         for bytes in records(&request.log).into_iter().flatten() {
-            let record = match Fields::from_bytes(bytes).decode() {
-                Ok(record) if bank.apply(record).is_ok() => record,
-                _ => break,
-            };
-            if let Record::Ticks(wait) = record {
-                let running = bank
-                    .select
-                    .routed_pwms()
-                    .map(|channel| bank.pwms[channel].cs);
-                met.extend(running.map(|cs| (cs, u64::BITS - wait.leading_zeros())));
-                longest = longest.max(wait);
+            let record = Fields::from_bytes(bytes);
+            if bank.apply(&record).is_err() {
+                break;
+            }
+            if record.kind == TICKS {
+                let routed = bank.pwms.iter().zip(bank.select.pwms());
+                let running = routed.filter(|&(_, routed)| routed).map(|(pwm, _)| pwm.cs);
+                met.extend(running.map(|cs| (cs, u64::BITS - record.value.leading_zeros())));
+                longest = longest.max(record.value);
             }
         }
     }

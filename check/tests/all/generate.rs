@@ -6,8 +6,9 @@ use rivandoze_check::generate::{
     Settings, FAULTS,
 };
 use rivandoze_check::reference::encoder::{DIR, EN, ERR, MODE, UOERR, UOVR};
+use rivandoze_check::reference::i2c;
 use rivandoze_check::reference::log::{records, LOG_MAX};
-use rivandoze_check::reference::record::{Fields, Record, WriteTo};
+use rivandoze_check::reference::record::{Fields, I2C, SELECT, TICKS, WRITE};
 use rivandoze_check::reference::Bank;
 use std::collections::BTreeSet;
 
@@ -99,8 +100,9 @@ fn waits_keep_to_their_longest() {
         for seed in 0..30 {
             let log = generate(seed, &settings);
             for bytes in records(&log).expect("a made log has a good trailer") {
-                if let Ok(Record::Ticks(value)) = Fields::from_bytes(bytes).decode() {
-                    longest = longest.max(value);
+                let record = Fields::from_bytes(bytes);
+                if record.kind == TICKS {
+                    longest = longest.max(record.value);
                 }
             }
         }
@@ -159,11 +161,12 @@ impl Met {
                 });
             }
         }
-        if let Ok(Record::Write(WriteTo::I2cGo, _)) = fields.decode() {
+        let written = (fields.kind == WRITE).then(|| fields.place());
+        if written == Some((I2C, 0, i2c::GO)) {
             let i2c = &before.i2c;
             self.i2c.insert((i2c.state as u8, i2c.addr & 1, i2c.cntl));
         }
-        if let Ok(Record::Write(WriteTo::Select, _)) = fields.decode() {
+        if written == Some((SELECT, 0, 0)) {
             let pairs = before.encoders.iter().zip(&after.encoders);
             self.pins_seen_again |= pairs
                 .into_iter()
@@ -181,8 +184,7 @@ fn met(seeds: u64) -> Met {
         for bytes in records(&log).expect("a made log has a good trailer") {
             let fields = Fields::from_bytes(bytes);
             let before = bank.clone();
-            let record = fields.decode().expect("a log without a fault");
-            bank.apply(record).expect("a log without a fault");
+            bank.apply(&fields).expect("a log without a fault");
             met.record(&before, fields, &bank);
         }
     }

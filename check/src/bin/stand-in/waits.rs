@@ -18,7 +18,7 @@ pub fn waited(mistake: Mistake, old: &Pwm, count: u32) -> Option<Pwm> {
         _ => split(total(old, count), n),
     };
     let steps = match mistake {
-        StepsCutTo16Bits => total / n & 0xFFFF,
+        StepsCutTo16Bits => (total / n) & 0xFFFF,
         RoundsDroppedFirst if u64::from(old.counter) < round(old) => total / n % round(old),
         _ => total / n,
     };

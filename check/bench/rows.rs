@@ -1,0 +1,140 @@
+//! What each row of the benchmark is about: a full log, or requests of the finder.
+
+use rivandoze_check::generate::{generate, Rng, Settings};
+use rivandoze_check::reference::log::{build, RECORDS_MAX};
+use rivandoze_check::reference::record::{Fields, ENCODER, I2C, PWM, SELECT, TICKS_MAX};
+
+const ALL_ENCODERS: u64 = 0xAA_AAAA_AAAA;
+const ALL_PWMS: u64 = 0x55_5555_5555;
+const REQUESTS: usize = 4_096;
+const REQUEST_LEN: usize = 16;
+
+pub struct Row {
+    pub name: &'static str,
+    /// Whether it is about the finder, and not about a replay.
+    pub finds: bool,
+    /// The log, or the requests as bytes.
+    pub make: fn() -> Vec<u8>,
+}
+
+pub const ROWS: [Row; 7] = [
+    replay("pins of one encoder", || pins(1)),
+    replay("pins of ten encoders", || pins(10)),
+    replay("reads", reads),
+    replay("a mix, waits to 20 ticks", || mix(20)),
+    replay("a mix, waits of any length", || mix(TICKS_MAX)),
+    replay("waits only, 20 PWM channels", waits_only),
+    Row {
+        name: "the finder, a request",
+        finds: true,
+        make: some_requests,
+    },
+];
+
+const fn replay(name: &'static str, make: fn() -> Vec<u8>) -> Row {
+    Row {
+        name,
+        finds: false,
+        make,
+    }
+}
+
+impl Row {
+    /// The records or requests that a round goes through.
+    pub fn parts(&self) -> usize {
+        if self.finds {
+            REQUESTS
+        } else {
+            RECORDS_MAX
+        }
+    }
+}
+
+/// Encoders in quadrature, walking on and back.
+fn pins(encoders: u8) -> Vec<u8> {
+    let mut rng = Rng::new(1);
+    let mut records = vec![Fields::write(SELECT, 0, 0, ALL_ENCODERS)];
+    records.extend((0..encoders).map(|channel| Fields::write(ENCODER, channel, 0, 1)));
+    let mut pins = [0; 10];
+    while records.len() < RECORDS_MAX {
+        let channel = rng.below(encoders.into()) as usize;
+        pins[channel] ^= rng.pick(&[1, 2]);
+        records.push(Fields::pins(channel as u8, pins[channel]));
+    }
+    log_of(&records)
+}
+
+fn reads() -> Vec<u8> {
+    let mut rng = Rng::new(3);
+    let records: Vec<Fields> = (0..RECORDS_MAX)
+        .map(|_| match rng.below(8) {
+            0 => Fields::read(SELECT, 0, 0),
+            1 => Fields::read(I2C, 0, rng.pick(&[0, 1, 3])),
+            2..=4 => Fields::read(ENCODER, rng.below(10) as u8, rng.below(3) as u8),
+            _ => Fields::read(PWM, rng.below(20) as u8, rng.below(6) as u8),
+        })
+        .collect();
+    log_of(&records)
+}
+
+fn mix(most_ticks: u64) -> Vec<u8> {
+    let settings = Settings {
+        least_records: RECORDS_MAX,
+        most_ticks,
+        refused_percent: 0,
+        notes_percent: 0,
+        ..Settings::default()
+    };
+    generate(2, &settings)
+}
+
+/// All twenty PWM channels at once.
+fn waits_only() -> Vec<u8> {
+    let mut rng = Rng::new(5);
+    let mut records = vec![Fields::write(SELECT, 0, 0, ALL_PWMS)];
+    for channel in 0..20 {
+        let cnfg = rng.pick(&[0, 4, 5]);
+        let values = [
+            cnfg,
+            rng.between(1, 7),
+            rng.below(65_536),
+            rng.below(65_536),
+        ];
+        let writes = (0..4).zip(values);
+        records
+            .extend(writes.map(|(register, value)| Fields::write(PWM, channel, register, value)));
+    }
+    while records.len() < RECORDS_MAX - 40 {
+        records.push(Fields::ticks(rng.between(0, TICKS_MAX)));
+    }
+    for channel in 0..20 {
+        records.extend([4, 5].map(|register| Fields::read(PWM, channel, register)));
+    }
+    log_of(&records)
+}
+
+fn log_of(records: &[Fields]) -> Vec<u8> {
+    let bytes: Vec<_> = records.iter().map(|fields| fields.to_bytes()).collect();
+    build(&[], &bytes)
+}
+
+/// Half of the rates for PWM, half for SPI, as many of each size.
+fn some_requests() -> Vec<u8> {
+    let mut rng = Rng::new(4);
+    let mut one = |index: usize| {
+        let (least, most) = [(40, 40_000), (40_001, 4_000_000)][index % 2];
+        let most = most.min(least << rng.below(12));
+        let rate = rng.between(least, most);
+        let tolerance = rng.pick(&[0, 100, 10_000, 1_000_000]);
+        [rate, tolerance].map(u64::to_le_bytes).concat()
+    };
+    (0..REQUESTS).flat_map(|index| one(index)).collect()
+}
+
+/// The requests of these bytes: a rate and a tolerance each.
+pub fn requests(bytes: &[u8]) -> impl Iterator<Item = (u64, u64)> + '_ {
+    let number = |bytes: &[u8]| u64::from_le_bytes(bytes.try_into().expect("eight bytes"));
+    bytes
+        .chunks_exact(REQUEST_LEN)
+        .map(move |request| (number(&request[..8]), number(&request[8..])))
+}
