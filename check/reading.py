@@ -63,9 +63,9 @@ class File:
             entry["lines"].append(number)
             entry["text"] += " " + bare
             if entry["kind"] == "data" and indent > item[1]:
-                inner = re.match(r"^\s*(?:pub )?([^\s(){}:]+) :", bare)
-                if inner:
-                    self.names.setdefault(inner[1], (None, item[0]))
+                inner = re.match(r"^\s*(?:pub )?((?:[^\s(){}:]+ )+):", bare)
+                for name in inner[1].split() if inner else []:
+                    self.names.setdefault(name, (None, item[0]))
 
     def use(self, line):
         found = re.match(r"use (\S+?)(?:\.\{(.*)\})?(?: as (\S+))?$", line.strip())

@@ -1,4 +1,5 @@
 pub mod Arms
 pub mod Turns
 pub mod Sweep
+pub mod Full
 pub mod Proved

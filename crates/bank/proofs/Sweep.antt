@@ -9,15 +9,17 @@ use native.Mathlib.Nat.{div-div-eq-div-mul, pow-suc}
 use lib.Dec.{eqb}
 use borrow.Author.Tests.{eq-eqb, ne-eqb}
 use lib.ListN.{length, getD, set}
-use Rattle.laws.proofs.Each.{front, front-none, front-more, front-all}
+use Rattle.laws.proofs.Each.{front, front-none, front-more, front-all, front-behind}
 use Rattle.encoder.specs.declared.Encoder.{Encoder}
 use Rattle.encoder.specs.Encoder as encoder
 use Rattle.pwm.specs.declared.Pwm.{Pwm}
 use Rattle.pwm.specs.Pwm as pwm
+use Rattle.pwm.specs.Facts.{Short}
 use Rattle.select.specs.Select.{pwmRouted}
 use Rattle.select.specs.How.{ones}
 use Rattle.select.proofs.Routes.{routed-bit}
 use Rattle.bank.specs.declared.Bank.{Bank}
+use Rattle.bank.proofs.Full.{Full}
 use Rattle.bank.specs.Bank.{reroute, onSelect, tickRouted, onTicks}
 
 abbrev pub with-encoders : Bank → List Encoder → Bank
@@ -57,6 +59,10 @@ module _ (t : ℕ) (b : Bank) where
 
   pub ticked-none : b ≡ with-pwms b (front (tickRouted (b .select) t) 0 0 (b .pwms))
   ticked-none = ap (with-pwms b) (sym (front-none (tickRouted (b .select) t) (b .pwms)))
+
+  -- the next one is as it was, so its remainder is short
+  pub ticked-short : Full b → (x : Bank) (i : ℕ) → x ≡ with-pwms b (front (tickRouted (b .select) t) 0 i (b .pwms)) → Short (getD (x .pwms) i pwm.fresh)
+  ticked-short full x i here = rw (here, front-behind (tickRouted (b .select) t) pwm.fresh 0 (b .pwms) i) (full .short i)
 
   module _ (twenty : length (b .pwms) ≡ 20) (x : Bank) (i : ℕ)
       (here : x ≡ with-pwms b (front (tickRouted (b .select) t) 0 i (b .pwms))) where

@@ -1,7 +1,7 @@
 -- A register's bits.
 -- Assumes nothing.
 use Prim.Native.Nat.{ℕ, zero, suc, _/_, _%_, _^_}
-use mathlib.Core.Bool.{Bool, true, false, not, _&&_, Bool·beq}
+use mathlib.Core.Bool.{Bool, not, cond, _&&_, Bool·beq}
 use lib.Dec.{eqb}
 
 -- bit k of a number
@@ -11,8 +11,7 @@ bit (suc k) v = eqb (v / 2 ^ suc k % 2) 1
 
 -- what a bit adds at place 0
 abbrev pub num : Bool → ℕ
-num true = 1
-num false = 0
+num b = cond b 1 0
 
 -- a bit going 0 to 1
 abbrev pub rises : Bool → Bool → Bool

@@ -2,10 +2,10 @@
 use mathlib.Core.Path.{_≡_, refl, sym, ap, _∙_}
 use mathlib.Core.List.{List, [], _∷_, _++_}
 use Prim.Native.Nat.{ℕ, suc, _+_, _-_, _/_, _%_, _≤_, _<_, min}
-use native.Mathlib.Nat.{add-zero, add-suc, suc-add}
+use native.Mathlib.Nat.{zero-add, add-zero, add-suc, suc-add}
 use native.Mathlib.Omega.{arith, min-cases}
-use lib.ListN.{length, set, length-append}
-use lib.Seq.{sets, length-sets, set-out}
+use lib.ListN.{length, set, length-append, take, drop}
+use lib.Seq.{sets, length-sets, set-out, sets-eq, take-at, drop-at}
 use Rattle.decimal.specs.Digits.{digitsOf}
 use Rattle.decimal.specs.Put.{Put}
 use Rattle.decimal.proofs.Back.{digits-small, digits-more}
@@ -51,3 +51,11 @@ put-digit n out out′ at r b h e x = rw (digits-small n h, ← e) x
 pub put-more : (n : ℕ) (out mid out′ : List ℕ) (at end r b : ℕ) → 10 ≤ n → b ≡ 48 + n % 10 → Put out at (digitsOf (n / 10)) mid end
     → Put mid end (b ∷ []) out′ r → Put out at (digitsOf n) out′ r
 put-more n out mid out′ at end r b h e x y = rw (digits-more n h, ← e) (put-then out mid out′ (digitsOf (n / 10)) (b ∷ []) at end r x y)
+
+-- where there is room, what is put at the front stands there whole, and what was behind it stays
+pub put-whole : (out s out′ : List ℕ) (n : ℕ) → Put out 0 s out′ n → length s ≤ length out
+    → (n ≡ length s) × (take n out′ ≡ s) × (drop n out′ ≡ drop n out)
+put-whole out s out′ n x h =
+    let e : n ≡ length s = omega (arith, x .place) in
+    let b = x .bytes ∙ sets-eq s out 0 (omega arith) in
+    (e, rw b (take-at s (drop (0 + length s) out) n (sym e)), rw b (rw (drop-at s (drop (0 + length s) out) n (sym e), zero-add, e)))

@@ -16,7 +16,7 @@ use Rattle.laws.proofs.Cases.{taken, left}
 use Rattle.laws.proofs.Truth.{neither}
 use Rattle.encoder.specs.declared.Encoder.{Encoder}
 use Rattle.encoder.specs.Count.{pattern, wrap}
-use Rattle.encoder.specs.Encoder.{en, rst, mode, cerr, covr, one, flagsOf, statOf, cleared, marked, erred, stored, kept, counted, places, quadrature, clocked, onPins, onCnfg, countsInQuadrature, registerOf}
+use Rattle.encoder.specs.Encoder.{en, rst, mode, cleared, marked, erred, stored, kept, counted, places, quadrature, clocked, onPins, onCnfg, countsInQuadrature, registerOf}
 use Rattle.encoder.proofs.Counting.{first-kept, pins-quadrature}
 use Rattle.encoder.proofs.Machine.{held, held-is, bits-are}
 
@@ -24,26 +24,26 @@ use Rattle.encoder.proofs.Machine.{held, held-is, bits-are}
 
 module _ (v : ℕ) (e r : Encoder) (n : ℤ) (s : ℕ) (small : mag (e .count) < 2147483648) (small′ : mag n < 2147483648)
     (made : r ≡ stored v (held n) s e) where
-  step : (back : Bool) → n ≡ wrap (held (e .count) +ℤ one back) → s ≡ statOf (marked back (pattern (e .count)) (flagsOf (e .stat))) → r ≡ counted back v e
+  step : (back : Bool) → n ≡ wrap (held (e .count) +ℤ cond back (negsuc 0) (pos 1)) → s ≡ marked back (pattern (e .count)) (e .stat) → r ≡ counted back v e
   step back next stat =
-      made ∙ ap (λ (m : ℤ). stored v m s e) (held-is n small′ ∙ next ∙ ap (λ (z : ℤ). wrap (z +ℤ one back)) (held-is (e .count) small))
-      ∙ ap (λ (t : ℕ). stored v (wrap (e .count +ℤ one back)) t e) stat
+      made ∙ ap (λ (m : ℤ). stored v m s e) (held-is n small′ ∙ next ∙ ap (λ (z : ℤ). wrap (z +ℤ cond back (negsuc 0) (pos 1))) (held-is (e .count) small))
+      ∙ ap (λ (t : ℕ). stored v (wrap (e .count +ℤ cond back (negsuc 0) (pos 1))) t e) stat
 
   -- at an end
-  pub step-at : (back : Bool) (b : ℕ) → ofZ w32 (e .count) ≡ b → n ≡ wrap (held (e .count) +ℤ one back) → s ≡ statOf (marked back b (flagsOf (e .stat)))
+  pub step-at : (back : Bool) (b : ℕ) → ofZ w32 (e .count) ≡ b → n ≡ wrap (held (e .count) +ℤ cond back (negsuc 0) (pos 1)) → s ≡ marked back b (e .stat)
       → r ≡ counted back v e
   step-at back b end next stat =
-      step back next (stat ∙ ap (λ (i : ℕ). statOf (marked back i (flagsOf (e .stat)))) (sym end ∙ bits-are (e .count) small))
+      step back next (stat ∙ ap (λ (i : ℕ). marked back i (e .stat)) (sym end ∙ bits-are (e .count) small))
 
   -- between the ends
   pub step-up : (ofZ w32 (e .count) ≡ 4294967295 → ⊥) → (ofZ w32 (e .count) ≡ 2147483647 → ⊥) → n ≡ wrap (held (e .count) +ℤ pos 1)
-      → s ≡ statOf (marked false 0 (flagsOf (e .stat))) → r ≡ counted false v e
+      → s ≡ marked false 0 (e .stat) → r ≡ counted false v e
   step-up not-unsigned not-signed next stat =
       step false next
       (rw (ne-eqb (pattern (e .count)) 4294967295 (λ h. not-unsigned (bits-are (e .count) small ∙ h)), ne-eqb (pattern (e .count)) 2147483647 (λ h. not-signed (bits-are (e .count) small ∙ h)))
       stat)
 
-  pub step-down : n ≡ wrap (held (e .count) +ℤ negsuc 0) → s ≡ statOf (marked true 0 (flagsOf (e .stat))) → r ≡ counted true v e
+  pub step-down : n ≡ wrap (held (e .count) +ℤ negsuc 0) → s ≡ marked true 0 (e .stat) → r ≡ counted true v e
   step-down next stat = step true next stat
 
 -- ---- MODE 0
@@ -55,12 +55,12 @@ module _ (t v : ℕ) (e r : Encoder) where
   pub forward : t ≡ 1 → r ≡ counted false v e → r ≡ quadrature t v e
   forward z h = rw z h
 
-  pub failed : (s : ℕ) → t ≡ 2 → mag (e .count) < 2147483648 → s ≡ statOf (erred (flagsOf (e .stat))) → r ≡ stored v (held (e .count)) s e → r ≡ quadrature t v e
+  pub failed : (s : ℕ) → t ≡ 2 → mag (e .count) < 2147483648 → s ≡ erred (e .stat) → r ≡ stored v (held (e .count)) s e → r ≡ quadrature t v e
   failed s z small stat h =
       rw z
       (h ∙ ap (λ (n : ℤ). stored v n s e) (held-is (e .count) small) ∙ ap (λ (i : ℕ). stored v (e .count) i e) stat)
 
--- what is none of 0, 1 and 2 places forward is one back
+-- what is none of 0, 1 and 2 places forward is cond back (negsuc 0) (pos 1)
 pub back : (t v : ℕ) (e r : Encoder) → (t ≡ 0 → ⊥) → (t ≡ 1 → ⊥) → (t ≡ 2 → ⊥) → r ≡ counted true v e → r ≡ quadrature t v e
 back zero v e r h₀ h₁ h₂ q = absurd (h₀ refl)
 back (suc zero) v e r h₀ h₁ h₂ q = absurd (h₁ refl)
@@ -85,7 +85,7 @@ enabled : (n : ℕ) → (n % 2 ≡ 0 → ⊥) → en n ≡ true
 enabled n h = eq-eqb (n % 2) 1 (omega arith)
 
 -- EN 1, RST 0 and MODE 0
-alone : (e : Encoder) → e .cnfg % 8 ≡ 1 → countsInQuadrature true e ≡ true
+alone : (e : Encoder) → e .cnfg % 8 ≡ 1 → countsInQuadrature true (e .cnfg) ≡ true
 alone e h =
     let n = e .cnfg in
     rw (eq-eqb (n % 2) 1 (omega arith), ne-eqb (n / 2 % 2) 1 (λ b. omega arith), ne-eqb (n / 4 % 2) 1 (λ b. omega arith))
@@ -117,7 +117,7 @@ module _ (v : ℕ) (e r : Encoder) where
 -- ---- a write to CNFG, to the count n and the STAT s
 
 pub configured : (v : ℕ) (e : Encoder) (n : ℤ) (s : ℕ) → mag (e .count) < 2147483648 → mag n < 2147483648 → n ≡ cond (rst v) (pos 0) (held (e .count))
-    → s ≡ statOf (cleared (rises (cerr (e .cnfg)) (cerr v)) (rises (covr (e .cnfg)) (covr v)) (flagsOf (e .stat)))
+    → s ≡ cleared (rises (bit 3 (e .cnfg)) (bit 3 v)) (rises (bit 4 (e .cnfg)) (bit 4 v)) (e .stat)
     → _≡_ {A = Encoder} (record { count = held n; cnfg = v; stat = s; pins = e .pins; seen = e .seen && not (changes (en (e .cnfg)) (en v) || changes (mode (e .cnfg)) (mode v)) }) (onCnfg v e)
 configured v e n s small small′ count stat = cc (held-is (e .count) small, held-is n small′)
 

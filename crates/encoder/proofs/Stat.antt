@@ -1,20 +1,24 @@
 -- STAT as a number: a rule on its six bits is a test at each of the 64 numbers that they make, which antt computes.
 -- Assumes nothing.
-use mathlib.Core.Path.{_≡_, ap, _∙_}
+use mathlib.Core.Path.{_≡_, _∙_}
+use mathlib.Core.Bool.{Bool}
 use Prim.Native.Nat.{ℕ, _+_, _*_, _/_, _%_}
 use native.Mathlib.Omega.{arith}
 use lib.Dec.{T, eqb, eqb→eq}
 use lib.ListN.{replicate}
+use Rattle.bits.specs.Bits.{bit}
 use Rattle.laws.proofs.Table.{every, at}
-use Rattle.encoder.specs.Encoder.{Flags, flagsOf, statOf}
 
 pub low : (m q r : ℕ) → m ≡ 2 * q + r → r % 2 ≡ m % 2
 low m q r e = omega arith
 
+-- a rule at the bits of a STAT
+abbrev pub on : (Bool → Bool → Bool → Bool → Bool → Bool → ℕ) → ℕ → ℕ
+on rule s = rule (bit 0 s) (bit 1 s) (bit 2 s) (bit 3 s) (bit 4 s) (bit 5 s)
+
 -- no higher bit is a flag
-six : (n : ℕ) → flagsOf (n % 64) ≡ flagsOf n
-unfolding flagsOf
-six n =
+six : (rule : Bool → Bool → Bool → Bool → Bool → Bool → ℕ) (n : ℕ) → on rule (n % 64) ≡ on rule n
+six rule n =
     let dir : n % 64 % 2 ≡ n % 2 = omega arith in
     let err = low (n / 2) (16 * (n / 64)) (n % 64 / 2) (omega arith) in
     let uovr = low (n / 4) (8 * (n / 64)) (n % 64 / 4) (omega arith) in
@@ -24,8 +28,8 @@ six n =
     rw (dir, err, uovr, sovr, uoerr, soerr)
 
 -- the rule, computed on numbers by f
-pub by-bits : (f : ℕ → ℕ) (rule : Flags → Flags) → T (every (λ n _. eqb (f n) (statOf (rule (flagsOf n)))) 0 (replicate 64 0))
-    → (stat : ℕ) → f (stat % 64) ≡ statOf (rule (flagsOf stat))
+pub by-bits : (f : ℕ → ℕ) (rule : Bool → Bool → Bool → Bool → Bool → Bool → ℕ) → T (every (λ n _. eqb (f n) (on rule n)) 0 (replicate 64 0))
+    → (stat : ℕ) → f (stat % 64) ≡ on rule stat
 by-bits f rule t stat =
-    eqb→eq (f (stat % 64)) (statOf (rule (flagsOf (stat % 64)))) (at (λ n _. eqb (f n) (statOf (rule (flagsOf n)))) (replicate 64 0) t (stat % 64) (omega arith))
-    ∙ ap (λ (g : Flags). statOf (rule g)) (six stat)
+    eqb→eq (f (stat % 64)) (on rule (stat % 64)) (at (λ n _. eqb (f n) (on rule n)) (replicate 64 0) t (stat % 64) (omega arith))
+    ∙ six rule stat

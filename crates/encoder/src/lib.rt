@@ -1,9 +1,9 @@
 // One encoder: its count, the registers CNFG and STAT as numbers, and the pins last seen.
 ghost use mathlib.Core.Path.{_≡_};
 ghost use mathlib.Core.Bool.{Bool, cond};
-ghost use lib.IntN.{pos, _+ℤ_};
+ghost use lib.IntN.{pos, negsuc, _+ℤ_};
 ghost use Rattle.encoder.specs.Count.{wrap, pattern, signed};
-ghost use Rattle.encoder.specs.Encoder.{one, places, flagsOf, statOf, cleared, marked, erred, stored, kept, counted, quadrature, clocked, onCnfg, onSelect, onPins, registerOf, fresh};
+ghost use Rattle.encoder.specs.Encoder.{places, cleared, marked, erred, stored, kept, counted, quadrature, clocked, onCnfg, onSelect, onPins, registerOf, fresh};
 
 pub struct Encoder {
     pub count: i32,
@@ -47,13 +47,13 @@ fn count_of(b: u32) -> i32
 }
 
 fn wrapping_up(at: i32) -> i32
-    ensures { λ r. ⌜ r ≡ wrap (at +ℤ one Bool.false) ⌝ }
+    ensures { λ r. ⌜ r ≡ wrap (at +ℤ pos 1) ⌝ }
 {
     count_of(std::num::wrapping_add_u32(bit_pattern(at), 1))
 }
 
 fn wrapping_down(at: i32) -> i32
-    ensures { λ r. ⌜ r ≡ wrap (at +ℤ one Bool.true) ⌝ }
+    ensures { λ r. ⌜ r ≡ wrap (at +ℤ negsuc 0) ⌝ }
 {
     count_of(std::num::wrapping_sub_u32(bit_pattern(at), 1))
 }
@@ -68,7 +68,7 @@ fn kept_count(rst: bool, at: i32) -> i32
 // ---- STAT as a number: each rule is a few operations on its six bits
 
 fn marked_up(stat: u32) -> u32
-    ensures { λ r. ⌜ r ≡ statOf (marked Bool.false 0 (flagsOf stat)) ⌝ }
+    ensures { λ r. ⌜ r ≡ marked Bool.false 0 stat ⌝ }
 {
     let s = stat % 64;
     s / 2 * 2
@@ -76,7 +76,7 @@ fn marked_up(stat: u32) -> u32
 
 // UOVR, and UOERR where UOVR is set already.
 fn marked_past_unsigned(stat: u32) -> u32
-    ensures { λ r. ⌜ r ≡ statOf (marked Bool.false 4294967295 (flagsOf stat)) ⌝ }
+    ensures { λ r. ⌜ r ≡ marked Bool.false 4294967295 stat ⌝ }
 {
     let s = stat % 64;
     s / 2 * 2 | 4 | (s / 4 % 2 * 16)
@@ -84,28 +84,28 @@ fn marked_past_unsigned(stat: u32) -> u32
 
 // SOVR, and SOERR where SOVR is set already.
 fn marked_past_signed(stat: u32) -> u32
-    ensures { λ r. ⌜ r ≡ statOf (marked Bool.false 2147483647 (flagsOf stat)) ⌝ }
+    ensures { λ r. ⌜ r ≡ marked Bool.false 2147483647 stat ⌝ }
 {
     let s = stat % 64;
     s / 2 * 2 | 8 | (s / 8 % 2 * 32)
 }
 
 fn marked_down(stat: u32) -> u32
-    ensures { λ r. ⌜ r ≡ statOf (marked Bool.true 0 (flagsOf stat)) ⌝ }
+    ensures { λ r. ⌜ r ≡ marked Bool.true 0 stat ⌝ }
 {
     let s = stat % 64;
     s | 1
 }
 
 fn erred(stat: u32) -> u32
-    ensures { λ r. ⌜ r ≡ statOf (erred (flagsOf stat)) ⌝ }
+    ensures { λ r. ⌜ r ≡ erred stat ⌝ }
 {
     let s = stat % 64;
     s | 2
 }
 
 fn cleared(error: bool, overflow: bool, stat: u32) -> u32
-    ensures { λ r. ⌜ r ≡ statOf (cleared error overflow (flagsOf stat)) ⌝ }
+    ensures { λ r. ⌜ r ≡ cleared error overflow stat ⌝ }
 {
     let s = stat % 64;
     if error {

@@ -10,20 +10,21 @@ use Rattle.fold.specs.Run.{step, resumed, runOf, tally}
 use Rattle.fold.specs.Output.{stopOf, bytesOf, over, outputOf}
 use Rattle.fold.specs.Device.{records}
 use Rattle.fold.specs.declared.Stop.{Stop}
-use Rattle.encoder.specs.Encoder.{flagsOf, statOf}
+use Rattle.encoder.specs.Encoder.{statOf}
 use Rattle.select.specs.Select.{fieldOf, some}
 use Rattle.wire.specs.Bytes.{byte, leOf}
 use Rattle.wire.specs.Trailer.{trailerOf}
 use Rattle.wire.specs.declared.Trailer.{Trailer}
 use Rattle.wire.specs.declared.Trailer.the-variants.{Found, Refused}
-use Rattle.wire.specs.Record.{decodeOf, namedOf, writeOf, readOf, pinsOf, ticksOf}
+use Rattle.wire.specs.Record.{decodeOf, namedOf, writeOf, readOf}
 use Rattle.bank.specs.Bank.{fresh}
 use Rattle.bank.specs.Bank as bank
-use Rattle.replay.specs.Replay.{turnOf, played, playOf, replayFrom, replayOf}
+use Rattle.replay.specs.Replay.{turnOf, played, playOf, replayFrom, replayOf, written}
 use Rattle.replay.specs.Facts.{whole}
-use Rattle.rate.specs.Rate.{pwm, spi, period, Outcome, outside, loose, none, pair}
+use Rattle.rate.specs.Rate.{pwm, spi, period, Answer, Outcome, outside, loose, none, pair}
 use Rattle.rate.specs.declared.Rule.{Rule}
-use Rattle.excluded.specs.Excluded.{Meets, told, runFrom, replayBy, Finds, fixedPair, Excluded}
+use Rattle.rate.specs.declared.Found.the-variants.{Pair}
+use Rattle.excluded.specs.Excluded.{Meets, runFrom, Excluded}
 
 -- ---- logs
 
@@ -34,14 +35,8 @@ reading = 2 ∷ replicate 15 0 ++ 16 ∷ 0 ∷ 0 ∷ 0 ∷ 1 ∷ 0 ∷ 81 ∷ 77
 abbrev output : List ℕ
 output = replicate 8 0
 
-abbrev tallied : Stop × List ℕ → ℕ
-tallied a = a .0 .applied
-
-abbrev refusal : Stop × List ℕ → ℕ
-refusal a = a .0 .refused
-
-abbrev first-byte : Stop × List ℕ → ℕ
-first-byte a = byte (a .1) 0
+abbrev first-byte : List ℕ → ℕ
+first-byte out = byte out 0
 
 refused-none : (k : ℕ) → suc k ≡ 0 → ⊥
 refused-none k e = omega arith
@@ -49,9 +44,9 @@ refused-none k e = omega arith
 applied-five : (k : ℕ) → 5 + suc k ≡ 5 → ⊥
 applied-five k e = omega arith
 
-right : Meets (replayBy played)
+right : Meets played
 unfolding replayOf replayFrom playOf
-right log out = ap (λ x. told x out) (at (trailerOf log))
+right log out = (ap stopOf (at (trailerOf log)), ap (λ x. written x out) (at (trailerOf log)))
   where
     at : (t : Trailer) → runFrom t played log (length out) ≡ replayFrom t log (length out)
     at (Found a n) = refl
@@ -65,19 +60,19 @@ exact u f (loose a t) e = absurd (omega arith)
 exact u f (none a t g) e = absurd (omega arith)
 exact u f (pair a t w) e = let h = w .within in omega arith
 
-fixed : (u : Rule) (f g c x : ℕ) → Finds u (fixedPair c x) → (f * period u c x ≡ u .clock) × (g * period u c x ≡ u .clock)
+fixed : (u : Rule) (f g c x : ℕ) → ((f tol : ℕ) → Answer u f tol (Pair c x)) → (f * period u c x ≡ u .clock) × (g * period u c x ≡ u .clock)
 fixed u f g c x h = (exact u f (h f 0) refl, exact u g (h g 0) refl)
 
 -- ---- all
 
 pub excluded : Excluded
-unfolding replayOf replayFrom trailerOf playOf runOf resumed step tally records turnOf bank.turnOf leOf decodeOf namedOf writeOf readOf pinsOf ticksOf fieldOf some mapFrom flagsOf statOf fresh bytesOf over outputOf stopOf
+unfolding replayOf replayFrom trailerOf playOf runOf resumed step tally records turnOf bank.turnOf leOf decodeOf namedOf writeOf readOf fieldOf some mapFrom statOf fresh bytesOf over outputOf stopOf
 excluded = record {
-  refuses-all = λ k h. refused-none _ (ap refusal (h whole output));
-  never-moves = λ h. let e : _≡_ {A = ℕ} 0 1 = ap first-byte (h whole output) in omega arith;
-  one-reading = λ v h. let a : v % 256 ≡ 1 = ap first-byte (h whole output) in let b : v % 256 ≡ 0 = ap first-byte (h reading output) in omega arith;
-  first-only = λ h. let e : _≡_ {A = ℕ} 0 1 = ap first-byte (h whole output) in omega arith;
-  invented-tally = λ k h. applied-five _ (ap tallied (h whole output));
+  refuses-all = λ k h. refused-none _ (ap (λ (a : Stop). a .refused) (h whole output .0));
+  never-moves = λ h. let e : _≡_ {A = ℕ} 0 1 = ap first-byte (h whole output .1) in omega arith;
+  one-reading = λ v h. let a : v % 256 ≡ 1 = ap first-byte (h whole output .1) in let b : v % 256 ≡ 0 = ap first-byte (h reading output .1) in omega arith;
+  first-only = λ h. let e : _≡_ {A = ℕ} 0 1 = ap first-byte (h whole output .1) in omega arith;
+  invented-tally = λ k h. applied-five _ (ap (λ (a : Stop). a .applied) (h whole output .0));
   fixed-pwm = λ c x h. let e = fixed pwm 1_000 40 c x h in omega arith;
   fixed-spi = λ c x h. let e = fixed spi 4_000_000 40 c x h in omega arith;
   right = right;

@@ -1,1 +1,2 @@
+mod States
 pub mod Proved

@@ -6,4 +6,4 @@ use Rattle.i2c.specs.Facts.{Sums}
 
 pub sums : Sums
 unfolding allowed
-sums = record { all = refl; idle = refl; tx = refl; rx = refl }
+sums = (refl, refl, refl, refl)

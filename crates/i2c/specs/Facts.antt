@@ -18,8 +18,6 @@ abbrev pub allowedFrom : Phase → ℕ
 allowedFrom p = count (λ (cntl : ℕ). allowed p (codeOf 0 cntl)) 16 + count (λ (cntl : ℕ). allowed p (codeOf 1 cntl)) 16
 
 -- "of 96 state, R/S and CNTL combinations, 36 are allowed: 7 idle, 15 TX idle, 14 RX idle"
-pub record Sums : Type 0 where
-  pub all : allowedFrom Idle + allowedFrom TxIdle + allowedFrom RxIdle ≡ 36
-  pub idle : allowedFrom Idle ≡ 7
-  pub tx : allowedFrom TxIdle ≡ 15
-  pub rx : allowedFrom RxIdle ≡ 14
+abbrev pub Sums : Type 0
+Sums = (allowedFrom Idle + allowedFrom TxIdle + allowedFrom RxIdle ≡ 36)
+    × (allowedFrom Idle ≡ 7) × (allowedFrom TxIdle ≡ 15) × (allowedFrom RxIdle ≡ 14)

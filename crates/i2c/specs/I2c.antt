@@ -1,8 +1,8 @@
 -- The I2C control sequencer, as paper 01 has it.
 -- Assumes nothing.
 use Prim.Native.Nat.{ℕ}
-use mathlib.Core.Bool.{Bool, true, false, not, cond, _&&_, _||_}
-use lib.Dec.{eqb}
+use mathlib.Core.Bool.{Bool, not, cond, _&&_, _||_}
+use lib.Dec.{ltb, eqb}
 use Rattle.bits.specs.Bits.{bit}
 use Rattle.fold.specs.Turn.{Turn, goes, refused}
 use Rattle.i2c.specs.declared.Phase.{Phase}
@@ -20,26 +20,13 @@ stateOf Idle = 0
 stateOf TxIdle = 1
 stateOf RxIdle = 2
 
--- not idle
-abbrev pub busy : Phase → Bool
-busy Idle = false
-busy TxIdle = true
-busy RxIdle = true
-
--- "in TX idle with R/S 0 or RX idle with R/S 1"
-abbrev pub matches : Phase → Bool → Bool
-matches Idle receive = false
-matches TxIdle receive = not receive
-matches RxIdle receive = receive
-
--- "TX/RX 0: allowed only with START 0, STOP 1, not idle"
 -- "TX/RX 1: refused if R/S, ACK and STOP are all 1. START 1 is allowed from each state; START 0 only in TX idle with R/S 0 or RX
--- idle with R/S 1"
+-- idle with R/S 1", the states 1 and 2
+-- "TX/RX 0: allowed only with START 0, STOP 1, not idle", in a state above 0
 unfoldable pub allowed : Phase → Code → Bool
-allowed p k =
-    cond (k .byte)
-    (not (k .receive && (k .ack && k .stop)) && (k .start || matches p (k .receive)))
-    (not (k .start) && (k .stop && busy p))
+allowed p k = cond (k .byte)
+    (not (k .receive && (k .ack && k .stop)) && (k .start || eqb (stateOf p) (cond (k .receive) 2 1)))
+    (not (k .start) && (k .stop && ltb 0 (stateOf p)))
 
 -- "TX/RX 0: .. ends idle"
 -- "TX/RX 1: .. Ends idle on STOP, else TX idle for R/S 0, RX idle for 1"

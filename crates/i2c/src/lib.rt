@@ -1,6 +1,8 @@
 // The I2C control sequencer: the two registers that GO takes its code from, and the state that it leaves.
 ghost use mathlib.Core.Path.{_≡_};
-ghost use Rattle.i2c.specs.I2c.{codeOf, code, stateOf, busy, matches, allowed, ended, onAddr, onCntl, ran, registerOf, fresh};
+ghost use mathlib.Core.Bool.{cond};
+ghost use lib.Dec.{ltb, eqb};
+ghost use Rattle.i2c.specs.I2c.{codeOf, code, stateOf, allowed, ended, onAddr, onCntl, ran, registerOf, fresh};
 
 pub enum Phase {
     Idle,
@@ -38,7 +40,7 @@ impl Code {
 }
 
 fn busy(phase: Phase) -> bool
-    ensures { λ r. ⌜ r ≡ busy phase ⌝ }
+    ensures { λ r. ⌜ r ≡ ltb 0 (stateOf phase) ⌝ }
 {
     match phase {
         Phase::Idle => false,
@@ -49,7 +51,7 @@ fn busy(phase: Phase) -> bool
 
 // Whether a byte can follow in the direction of the last one.
 fn matches(phase: Phase, receive: bool) -> bool
-    ensures { λ r. ⌜ r ≡ matches phase receive ⌝ }
+    ensures { λ r. ⌜ r ≡ eqb (stateOf phase) (cond receive 2 1) ⌝ }
 {
     match phase {
         Phase::Idle => false,

@@ -6,7 +6,7 @@ use Prim.Native.Nat.{ℕ, zero, suc, _+_, _≤_, _<_}
 use native.Mathlib.Omega.{arith}
 use native.Mathlib.Nat.{le-of-suc-le-suc, not-suc-le-zero, zero-add, add-zero, le-antisymm}
 use native.Mathlib.Numerals.{add-one}
-use lib.ListN.{length, take, drop, set, getD, length-map}
+use lib.ListN.{length, take, drop, set, getD, replicate, length-map}
 use Rattle.laws.specs.Each.{mapFrom}
 
 -- an array of structs in a field: what owning it tells is of the list under a map
@@ -44,3 +44,31 @@ pub length-each : {X : Type 0} (f : ℕ → X → X) (k : ℕ) (l : List X) → 
 unfolding mapFrom
 length-each f k [] = refl
 length-each f k (x ∷ l) = ap suc (length-each f (suc k) l)
+
+-- what f keeps holds of every element after it, and what holds of all and of a new one holds with it in place
+module _ {X : Type 0} (P : X → Type 0) (d : X) where
+  pub each-keeps : (f : ℕ → X → X) → ((i : ℕ) (x : X) → P x → P (f i x)) → (k : ℕ) (l : List X) → ((i : ℕ) → P (getD l i d)) → (i : ℕ) → P (getD (mapFrom f k l) i d)
+  unfolding mapFrom
+  each-keeps f h k [] p i = p i
+  each-keeps f h k (x ∷ l) p zero = h k x (p zero)
+  each-keeps f h k (x ∷ l) p (suc i) = each-keeps f h (suc k) l (λ j. p (suc j)) i
+
+  pub set-keeps : (l : List X) (j : ℕ) (x : X) → P x → ((i : ℕ) → P (getD l i d)) → (i : ℕ) → P (getD (set l j x) i d)
+  set-keeps [] j x h p i = p i
+  set-keeps (y ∷ l) zero x h p zero = h
+  set-keeps (y ∷ l) zero x h p (suc i) = p (suc i)
+  set-keeps (y ∷ l) (suc j) x h p zero = p zero
+  set-keeps (y ∷ l) (suc j) x h p (suc i) = set-keeps l j x h (λ n. p (suc n)) i
+
+  pub fresh-keeps : P d → (n i : ℕ) → P (getD (replicate n d) i d)
+  fresh-keeps h zero i = h
+  fresh-keeps h (suc n) zero = h
+  fresh-keeps h (suc n) (suc i) = fresh-keeps h n i
+
+-- the element behind those that were replaced is as it was
+pub front-behind : {X : Type 0} (f : ℕ → X → X) (d : X) (k : ℕ) (l : List X) (i : ℕ) → getD (front f k i l) i d ≡ getD l i d
+unfolding mapFrom
+front-behind f d k [] zero = refl
+front-behind f d k [] (suc i) = refl
+front-behind f d k (x ∷ l) zero = refl
+front-behind f d k (x ∷ l) (suc i) = front-behind f d (suc k) l i

@@ -3,6 +3,7 @@
 use mathlib.Core.Path.{_≡_, refl, ap, _∙_}
 use mathlib.Core.Bool.{Bool, true, false, cond, _&&_, and-false}
 use Prim.Native.Nat.{ℕ, zero, suc, _+_, _<_}
+use native.Mathlib.Omega.{arith}
 use lib.Dec.{ltb, eqb}
 use borrow.Author.Tests.{ltb-true}
 use Rattle.divider.specs.Divider.{dividerOf}
@@ -11,10 +12,7 @@ use Rattle.pwm.specs.declared.Wave.{Wave}
 use Rattle.pwm.specs.declared.Pwm.{Pwm}
 use Rattle.pwm.specs.Pwm.{stepped, ticked, waited}
 use Rattle.pwm.specs.How.{at, moved}
-use Rattle.pwm.specs.Facts.{Always, Quiet, Short, ReadBack}
-
-pub read-back : (v : ℕ) (p : Pwm) → ReadBack v p
-read-back v p = record { cnfg = refl; cs = refl; max = refl; cmp = refl }
+use Rattle.pwm.specs.Facts.{Always, Quiet, Short}
 
 -- what a tick keeps where it only adds to the remainder, and where the counter steps, a wait keeps
 module _ (g : Registers) (Holds : Wave → Type 0)
@@ -34,19 +32,13 @@ module _ (g : Registers) (Holds : Wave → Type 0)
 pub quiet : Always Quiet
 quiet = record {
   first = λ m. refl;
-  cnfg = λ v p h m. ap (λ (b : Bool). p .wave .output && b) m ∙ and-false (p .wave .output);
-  cs = λ v p h. h;
-  max = λ v p h. h;
-  cmp = λ v p h. h;
+  writes = λ v p h. (λ m. ap (λ (b : Bool). p .wave .output && b) m ∙ and-false (p .wave .output), h, h, h);
   ticks = λ t p h. kept (p .registers) (λ (w : Wave). Quiet (moved p w)) (λ w k l. k) (λ w k m. rw m (k m)) t (p .wave) h;
 }
 
 pub short : Always Short
 short = record {
-  first = λ h. h;
-  cnfg = λ v p h. h;
-  cs = λ v p h k. k;
-  max = λ v p h. h;
-  cmp = λ v p h. h;
-  ticks = λ t p h. kept (p .registers) (λ (w : Wave). Short (moved p w)) (λ w k l m. l) (λ w k m. m) t (p .wave) h;
+  first = omega arith;
+  writes = λ v p h. (h, omega arith, h, h);
+  ticks = λ t p h. kept (p .registers) (λ (w : Wave). Short (moved p w)) (λ w k l. omega arith) (λ w k. omega arith) t (p .wave) h;
 }

@@ -13,7 +13,7 @@ use Rattle.pwm.specs.declared.Registers.{Registers}
 use Rattle.pwm.specs.declared.Wave.{Wave}
 use Rattle.pwm.specs.declared.Pwm.{Pwm}
 use Rattle.pwm.specs.Pwm.{inv, mode, stepped}
-use Rattle.pwm.specs.How.{at, left, moved, often, stepsOf, climbed, wrapped}
+use Rattle.pwm.specs.How.{at, left, moved, often, stepsOf, climbed, wrapped, untilZero}
 
 -- ---- a step, by where the counter stands
 
@@ -72,6 +72,14 @@ often-add (suc a) b g w = rw (suc-add a b) (ap (stepped g) (often-add a b g w))
 further : (g : Registers) (r : ℕ) {v w x : Wave} → v ≡ w → stepped g w ≡ x → left r (stepped g v) ≡ left r x
 further g r e f = ap (λ (w : Wave). left r (stepped g w)) e ∙ ap (left r) f
 
+-- where there is a step up, MAX is not reached yet
+until-room : (c max s : ℕ) → suc s < untilZero c max → c + s < max
+until-room c max s h = by (decLe c max)
+  where
+    by : Dec (c ≤ max) → c + s < max
+    by (yes k) = omega (arith, rw (le-ltb max c k) at h)
+    by (no k) = absurd (omega (arith, rw (lt-ltb max c (omega arith)) at h))
+
 module _ (g : Registers) (w : Wave) where
   abbrev c : ℕ
   c = w .counter
@@ -85,12 +93,13 @@ module _ (g : Registers) (w : Wave) where
       let z : (c + suc s) % 65536 ≡ ((c + s) % 65536 + 1) % 65536 = omega arith in
       rw z (further g r (steps-low e h s 0) (step-low g _ 0 _ e (omega arith)))
 
-  steps-up : mode (g .cnfg) ≡ true → (s r : ℕ) → c + s ≤ g .max → stepsOf s r g w ≡ climbed g (c + s) r w
+  steps-up : mode (g .cnfg) ≡ true → (s r : ℕ) → s < untilZero c (g .max) → stepsOf s r g w ≡ climbed g (c + s) r w
   unfolding often
   steps-up e zero r h = rw (add-zero c, unmet c (g .cmp) (inv (g .cnfg)) (w .output))
   steps-up e (suc s) r h =
+      let below = until-room c (g .max) s h in
       rw (add-suc c s)
-      (further g r (steps-up e s 0 (omega arith)) (step-up g _ 0 _ e (omega arith)) ∙
+      (further g r (steps-up e s 0 (omega arith)) (step-up g _ 0 _ e below) ∙
       ap (at _ r) (met (ltb c (g .cmp)) (g .cmp) (c + s) (inv (g .cnfg)) (w .output) (λ z. lt-ltb c (g .cmp) (omega arith))))
 
 module _ (g : Registers) (e : mode (g .cnfg) ≡ true) where
@@ -125,35 +134,34 @@ module _ (q p : Pwm) (s r : ℕ) where
   abbrev Stepped : Type 0
   Stepped = p ≡ moved q (stepsOf s r g w)
 
-  pub none : s ≡ 0 → p ≡ moved q (left r w) → Stepped
-  unfolding often
-  none z f = rw (f, z)
+  pub low : (b : Bool) (k : ℕ) → b ≡ mode (g .cnfg) → b ≡ false → w .counter < 2 ^ 16 →
+      k ≡ (w .counter + s % 65536) % 2 ^ 16 → p ≡ moved q (at k r (w .output)) → Stepped
+  low b k m z h e f =
+      let same : k ≡ (w .counter + s) % 65536 = omega arith in
+      f ∙ ap (moved q) (ap (λ (x : ℕ). at x r (w .output)) same ∙ sym (steps-low g w (sym m ∙ z) h s r))
 
-  pub low : (b : Bool) → b ≡ mode (g .cnfg) → b ≡ false → w .counter < 2 ^ 16 →
-      p ≡ moved q (at ((w .counter + s) % 65536) r (w .output)) → Stepped
-  low b m z h f = f ∙ ap (moved q) (sym (steps-low g w (sym m ∙ z) h s r))
+  module _ (m : mode (g .cnfg) ≡ true) (room : ℕ) (u : room ≡ untilZero (w .counter) (g .max)) where
+    pub up : s < room → p ≡ moved q (climbed g (w .counter + s) r w) → Stepped
+    up h f = f ∙ ap (moved q) (sym (steps-up g w m s r (rw u at h)))
 
-  module _ (m : mode (g .cnfg) ≡ true) where
-    pub up : (end : ℕ) → end ≡ w .counter + s → end ≤ g .max → p ≡ moved q (climbed g end r w) → Stepped
-    up end e h f = rw (f, e) (ap (moved q) (sym (steps-up g w m s r (omega arith))))
-
-    pub over : (end : ℕ) → end ≡ w .counter + s → g .max < end → w .counter ≤ g .max →
-        p ≡ moved q (wrapped g (end % (g .max + 1)) r) → Stepped
+    at-zero : often room g w ≡ wrapped g 0 0
     unfolding often
-    over end e h l f =
-        let room = g .max - w .counter in
-        let k = end - (g .max + 1) in
-        let zero = ap (stepped g) (steps-up g w m room 0 (omega arith)) ∙ step-over g _ 0 _ m (omega arith) in
-        let steps : k + suc room ≡ s = omega arith in
-        let again : end ≡ k + (g .max + 1) = omega arith in
-        rw (f, again, add-mod-right k (g .max + 1)) (ap (moved q) (rw steps at (sym (after g m w (suc room) k r zero))))
+    at-zero = by (decLe (w .counter) (g .max))
+      where
+        by : Dec (w .counter ≤ g .max) → often room g w ≡ wrapped g 0 0
+        by (yes k) =
+            let far = g .max - w .counter in
+            let steps : room ≡ suc far = omega (arith, rw (le-ltb (g .max) (w .counter) k) at u) in
+            let below : far < untilZero (w .counter) (g .max) = omega arith in
+            rw steps (ap (stepped g) (steps-up g w m far 0 below) ∙ step-over g _ 0 _ m (omega arith))
+        by (no k) =
+            let steps : room ≡ 1 = rw (lt-ltb (g .max) (w .counter) (omega arith)) at u in
+            rw steps (step-over g _ (w .remainder) _ m (omega arith))
 
-    -- above MAX the first step goes to 0
-    pub from-above : (s ≡ 0 → ⊥) → g .max < w .counter → p ≡ moved q (wrapped g ((s - 1) % (g .max + 1)) r) → Stepped
-    unfolding often
-    from-above n h f =
-        let steps : s - 1 + 1 ≡ s = omega arith in
-        f ∙ ap (moved q) (rw steps at (sym (after g m w 1 (s - 1) r (step-over g _ (w .remainder) _ m (omega arith)))))
+    pub over : room ≤ s → p ≡ moved q (wrapped g ((s - room) % (g .max + 1)) r) → Stepped
+    over h f =
+        let all : s - room + room ≡ s = omega arith in
+        f ∙ ap (moved q) (rw all at (sym (after g m w room (s - room) r at-zero)))
 
 -- ---- the output
 
@@ -178,6 +186,18 @@ pub agreed : (q p : Pwm) (k r : ℕ) (i : Bool) → i ≡ inv (q .registers .cnf
 agreed q p k r i e f =
     let b = leb (q .registers .cmp) k in
     f ∙ ap (λ (o : Bool). moved q (at k r o)) (agree i b ∙ ap (λ (j : Bool). cond b j (not j)) e)
+
+-- a way up ends at MAX, or where it began
+module _ (c max s room : ℕ) (u : room ≡ untilZero c max) (h : s < room) (k : c < 2 ^ 16) (l : max < 2 ^ 16) where
+  pub up-fits : c + s < 2 ^ 16
+  up-fits = by (decLe c max)
+    where
+      by : Dec (c ≤ max) → c + s < 2 ^ 16
+      by (yes n) = omega (arith, rw (le-ltb max c n) at u)
+      by (no n) = omega (arith, rw (lt-ltb max c (omega arith)) at u)
+
+  pub up-fits32 : c + s < 2 ^ 32
+  up-fits32 = omega (arith, up-fits)
 
 pub round-fits : (m max : ℕ) → max < 2 ^ 16 → m % (max + 1) < 2 ^ 16
 round-fits m max h = omega (arith, mod-lt m {m = max + 1} (omega arith))

@@ -1,32 +1,22 @@
 -- What is shown of the rules: facts that hold of every channel.
 -- Assumes nothing.
-use Prim.Native.Nat.{ℕ, _<_}
+use Prim.Native.Nat.{ℕ, _-_, _≤_}
 use mathlib.Core.Path.{_≡_}
 use mathlib.Core.Bool.{true, false}
 use Rattle.divider.specs.Divider.{dividerOf}
 use Rattle.pwm.specs.declared.Pwm.{Pwm}
-use Rattle.pwm.specs.Pwm.{mode, onTicks, onCnfg, onCs, onMax, onCmp, registerOf, fresh}
+use Rattle.pwm.specs.Pwm.{mode, onTicks, onCnfg, onCs, onMax, onCmp, fresh}
 
 -- what holds of a fresh channel, and after every write and every wait of a channel of which it holds
 pub record Always (Holds : Pwm → Type 0) : Type 0 where
   pub first : Holds fresh
-  pub cnfg : (v : ℕ) (p : Pwm) → Holds p → Holds (onCnfg v p)
-  pub cs : (v : ℕ) (p : Pwm) → Holds p → Holds (onCs v p)
-  pub max : (v : ℕ) (p : Pwm) → Holds p → Holds (onMax v p)
-  pub cmp : (v : ℕ) (p : Pwm) → Holds p → Holds (onCmp v p)
+  pub writes : (v : ℕ) (p : Pwm) → Holds p → Holds (onCnfg v p) × Holds (onCs v p) × Holds (onMax v p) × Holds (onCmp v p)
   pub ticks : (t : ℕ) (p : Pwm) → Holds p → Holds (onTicks t p)
 
 -- in MODE 0 the output is 0, "where it stays"
 abbrev pub Quiet : Pwm → Type 0
 Quiet p = mode (p .registers .cnfg) ≡ false → p .wave .output ≡ false
 
--- the remainder stays below N, so "at N" is when a tick would make it N
+-- the remainder stays below N, so "at N" is when a tick would make it N; with CS 0 it is 0
 abbrev pub Short : Pwm → Type 0
-Short p = 0 < dividerOf (p .registers .cs) → p .wave .remainder < dividerOf (p .registers .cs)
-
--- what is written is read back
-pub record ReadBack (v : ℕ) (p : Pwm) : Type 0 where
-  pub cnfg : registerOf 0 (onCnfg v p) ≡ v
-  pub cs : registerOf 1 (onCs v p) ≡ v
-  pub max : registerOf 2 (onMax v p) ≡ v
-  pub cmp : registerOf 3 (onCmp v p) ≡ v
+Short p = p .wave .remainder ≤ dividerOf (p .registers .cs) - 1

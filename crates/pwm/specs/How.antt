@@ -1,6 +1,6 @@
 -- How a wait is worked out: the steps in its ticks, and of the steps the way up or, past the top, the way up from the counter's last 0.
 -- No promise of a public function names it; `proofs/` show that it comes to the single ticks of `Pwm`. Assumes nothing.
-use Prim.Native.Nat.{ℕ, zero, suc}
+use Prim.Native.Nat.{ℕ, zero, suc, _+_, _-_}
 use mathlib.Core.Bool.{Bool, not, cond, _&&_}
 use lib.Dec.{ltb, leb}
 use Rattle.pwm.specs.declared.Registers.{Registers}
@@ -35,3 +35,7 @@ climbed g k r w = at k r (cond (ltb (w .counter) (g .cmp) && leb (g .cmp) k) (in
 -- MODE 1: the counter gone to 0, and from there up to k
 abbrev pub wrapped : Registers → ℕ → ℕ → Wave
 wrapped g k r = at k r (cond (leb (g .cmp) k) (inv (g .cnfg)) (not (inv (g .cnfg))))
+
+-- MODE 1: how many steps there are to 0
+abbrev pub untilZero : ℕ → ℕ → ℕ
+untilZero counter max = cond (ltb max counter) 1 (max - counter + 1)

@@ -18,40 +18,24 @@ mode cnfg = bit 2 cnfg
 
 -- ---- a tick
 
--- "the top is MAX in MODE 1, 65,535 in MODE 0"
-abbrev pub topOf : Registers → ℕ
-topOf g = cond (mode (g .cnfg)) (g .max) 65535
-
--- "A step goes to 0 if the counter is at or above the top, else adds 1"
-abbrev pub nextOf : ℕ → ℕ → ℕ
-nextOf counter top = cond (leb top counter) 0 (counter + 1)
+-- "A step goes to 0 if the counter is at or above the top, else adds 1; the top is MAX in MODE 1, 65,535 in MODE 0"
+abbrev pub nextOf : Registers → ℕ → ℕ
+nextOf g counter = cond (leb (cond (mode (g .cnfg)) (g .max) 65535) counter) 0 (counter + 1)
 
 -- "In MODE 1, INV 0, arriving at 0 sets the output, then arriving at CMP clears it; INV 1 swaps set and clear"
-abbrev pub atZero : Bool → ℕ → Bool → Bool
-atZero inv counter output = cond (eqb counter 0) (not inv) output
-
-abbrev pub atCmp : Bool → ℕ → ℕ → Bool → Bool
-atCmp inv cmp counter output = cond (eqb counter cmp) inv output
-
 abbrev pub arrived : Registers → ℕ → Bool → Bool
-arrived g counter output =
-    cond (mode (g .cnfg)) (atCmp (inv (g .cnfg)) (g .cmp) counter (atZero (inv (g .cnfg)) counter output)) output
+arrived g counter output = cond (mode (g .cnfg))
+    (cond (eqb counter (g .cmp)) (inv (g .cnfg)) (cond (eqb counter 0) (not (inv (g .cnfg))) output)) output
 
 -- "at N the remainder is 0 and the counter steps"
 abbrev pub stepped : Registers → Wave → Wave
-stepped g w = record {
-  counter = nextOf (w .counter) (topOf g);
-  remainder = 0;
-  output = arrived g (nextOf (w .counter) (topOf g)) (w .output);
-}
+stepped g w = let next = nextOf g (w .counter) in record { counter = next; remainder = 0; output = arrived g next (w .output) }
 
 -- "With CS 0 a tick does nothing. Otherwise a tick adds one to a remainder; at N the remainder is 0 and the counter steps"
 unfoldable pub ticked : Registers → Wave → Wave
-ticked g w =
-    cond (eqb (dividerOf (g .cs)) 0) w
+ticked g w = cond (eqb (dividerOf (g .cs)) 0) w
     (cond (ltb (w .remainder + 1) (dividerOf (g .cs)))
-    (record { counter = w .counter; remainder = w .remainder + 1; output = w .output })
-    (stepped g w))
+    (record { counter = w .counter; remainder = w .remainder + 1; output = w .output }) (stepped g w))
 
 -- "A record of t ticks is t single ticks"
 unfoldable pub waited : ℕ → Registers → Wave → Wave
@@ -65,35 +49,27 @@ onTicks t p = record { registers = p .registers; wave = waited t (p .registers) 
 
 -- "Writing CNFG with MODE 0 makes the output 0"
 abbrev pub onCnfg : ℕ → Pwm → Pwm
-onCnfg v p = record {
-  registers = record { cnfg = v; cs = p .registers .cs; max = p .registers .max; cmp = p .registers .cmp };
-  wave = record { counter = p .wave .counter; remainder = p .wave .remainder; output = p .wave .output && mode v };
-}
+onCnfg v p = let g : Registers = record { cnfg = v; cs = p .registers .cs; max = p .registers .max; cmp = p .registers .cmp } in
+    let w : Wave = record { counter = p .wave .counter; remainder = p .wave .remainder; output = p .wave .output && mode v } in
+    record { registers = g; wave = w }
 
 -- "Writing CS sets the remainder to 0"
 abbrev pub onCs : ℕ → Pwm → Pwm
-onCs v p = record {
-  registers = record { cnfg = p .registers .cnfg; cs = v; max = p .registers .max; cmp = p .registers .cmp };
-  wave = record { counter = p .wave .counter; remainder = 0; output = p .wave .output };
-}
+onCs v p = let g : Registers = record { cnfg = p .registers .cnfg; cs = v; max = p .registers .max; cmp = p .registers .cmp } in
+    record { registers = g; wave = record { counter = p .wave .counter; remainder = 0; output = p .wave .output } }
 
 abbrev pub onMax : ℕ → Pwm → Pwm
-onMax v p = record {
-  registers = record { cnfg = p .registers .cnfg; cs = p .registers .cs; max = v; cmp = p .registers .cmp };
-  wave = p .wave;
-}
+onMax v p = let g : Registers = record { cnfg = p .registers .cnfg; cs = p .registers .cs; max = v; cmp = p .registers .cmp } in
+    record { registers = g; wave = p .wave }
 
 abbrev pub onCmp : ℕ → Pwm → Pwm
-onCmp v p = record {
-  registers = record { cnfg = p .registers .cnfg; cs = p .registers .cs; max = p .registers .max; cmp = v };
-  wave = p .wave;
-}
+onCmp v p = let g : Registers = record { cnfg = p .registers .cnfg; cs = p .registers .cs; max = p .registers .max; cmp = v } in
+    record { registers = g; wave = p .wave }
 
 -- ---- what is read: "0 CNFG, 1 CS, 2 MAX, 3 CMP, 4 CNTR, 5 output level"
 
 abbrev pub registerOf : ℕ → Pwm → ℕ
-registerOf register p =
-    cond (eqb register 0) (p .registers .cnfg)
+registerOf register p = cond (eqb register 0) (p .registers .cnfg)
     (cond (eqb register 1) (p .registers .cs)
     (cond (eqb register 2) (p .registers .max)
     (cond (eqb register 3) (p .registers .cmp)
@@ -101,7 +77,5 @@ registerOf register p =
 
 -- "Fresh state: all registers 0"
 abbrev pub fresh : Pwm
-fresh = record {
-  registers = record { cnfg = 0; cs = 0; max = 0; cmp = 0 };
-  wave = record { counter = 0; remainder = 0; output = false };
-}
+fresh = let w : Wave = record { counter = 0; remainder = 0; output = false } in
+    record { registers = record { cnfg = 0; cs = 0; max = 0; cmp = 0 }; wave = w }

@@ -1,12 +1,12 @@
 // One PWM channel: its registers, and the wave that ticks move.
 use bits::number;
-use divider::divider;
+use std::num::wrapping_add_u16;
 use std::num::wrapping_sub_u8;
 ghost use mathlib.Core.Path.{_≡_};
 ghost use mathlib.Core.Bool.{true};
-ghost use Prim.Native.Nat.{_+_, _^_, _≤_, _<_, min};
 ghost use Rattle.pwm.specs.Pwm.{inv, mode, onTicks, onCnfg, onCs, onMax, onCmp, registerOf, fresh};
-ghost use Rattle.pwm.specs.How.{at, moved, climbed, wrapped, stepsOf};
+ghost use Rattle.pwm.specs.How.{at, moved, climbed, wrapped, stepsOf, untilZero};
+ghost use Rattle.pwm.specs.Facts.{Short};
 
 pub struct Registers {
     pub max: u16,
@@ -27,9 +27,6 @@ pub struct Pwm {
     pub wave: Wave,
 }
 
-// Below it all sums of a wait fit 32 bits, where the machine divides sooner: 2^32 - 2^17.
-const LONG: u64 = 4294836224;
-
 fn inv(cnfg: u8) -> bool
     ensures { λ r. ⌜ r ≡ inv cnfg ⌝ }
 {
@@ -42,10 +39,14 @@ fn mode(cnfg: u8) -> bool
     cnfg / 4 % 2 == 1
 }
 
-fn least(a: u64, b: u64) -> u64
-    ensures { λ r. ⌜ r ≡ min a b ⌝ }
+// How many steps there are to 0. From above MAX it is one.
+fn until_zero(counter: u16, max: u16) -> u32
+    ensures { λ r. ⌜ r ≡ untilZero counter max ⌝ }
 {
-    if a < b { a } else { b }
+    if max < counter {
+        return 1;
+    }
+    (max - counter) as u32 + 1
 }
 
 impl Pwm {
@@ -99,70 +100,41 @@ impl Pwm {
         self.moved(k, r, inv(self.registers.cnfg) == (self.registers.cmp <= k))
     }
 
-    // MODE 1, above MAX: the first step goes to 0.
-    fn above(self, s: u64, r: u8) -> Pwm
-        requires { ⌜ (mode (self .registers .cnfg) ≡ true) × (self .registers .max < self .wave .counter) ⌝ }
+    // s steps in MODE 1. The output depends only on the way since the counter was last 0.
+    fn in_mode_1(self, s: u32, r: u8) -> Pwm
+        requires { ⌜ mode (self .registers .cnfg) ≡ true ⌝ }
         ensures { λ p. ⌜ p ≡ moved self (stepsOf s r (self .registers) (self .wave)) ⌝ }
     {
-        if s == 0 {
-            return self.moved(self.wave.counter, r, self.wave.output);
+        let room = until_zero(self.wave.counter, self.registers.max);
+        if s < room {
+            return self.climbed((self.wave.counter as u32 + s) as u16, r);
         }
-        self.wrapped(((s - 1) % (self.registers.max as u64 + 1)) as u16, r)
-    }
-
-    // s steps in MODE 1, to `end` if MAX is not in the way. The output depends only on the way since the counter was last 0.
-    fn in_mode_1(self, s: u64, end: u64, r: u8) -> Pwm
-        requires { ⌜ (mode (self .registers .cnfg) ≡ true) × (end ≡ self .wave .counter + s) ⌝ }
-        ensures { λ p. ⌜ p ≡ moved self (stepsOf s r (self .registers) (self .wave)) ⌝ }
-    {
-        let max = self.registers.max as u64;
-        if end <= max {
-            return self.climbed(end as u16, r);
-        }
-        if self.registers.max < self.wave.counter {
-            return self.above(s, r);
-        }
-        self.wrapped((end % (max + 1)) as u16, r)
+        self.wrapped(((s - room) % (self.registers.max as u32 + 1)) as u16, r)
     }
 
     // s steps, and the remainder that is left.
-    fn steps(self, s: u64, r: u8) -> Pwm
-        requires { ⌜ s ≤ 2 ^ 63 + 255 ⌝ }
+    fn steps(self, s: u32, r: u8) -> Pwm
         ensures { λ p. ⌜ p ≡ moved self (stepsOf s r (self .registers) (self .wave)) ⌝ }
     {
-        let end = self.wave.counter as u64 + s;
         if mode(self.registers.cnfg) {
-            return self.in_mode_1(s, end, r);
+            return self.in_mode_1(s, r);
         }
-        self.moved((end % 65536) as u16, r, self.wave.output)
+        self.moved(wrapping_add_u16(self.wave.counter, (s % 65536) as u16), r, self.wave.output)
     }
 
-    // A tick or more. CS 1 to 7 have the places 0 to 6 in the divider table; CS 0 wraps to none. N is two to the power of its place, so
-    // that a shift divides by it, and a mask leaves the rest. A remainder that has passed N does as N - 1: the next tick steps.
-    fn waited(self, t: u64) -> Pwm
-        requires { ⌜ (1 ≤ t) × (t ≤ 2 ^ 63) ⌝ }
+    // A record of t ticks. CS 1 to 7 have the places 0 to 6 in the divider table; CS 0 wraps to none. N is two to the power of its place
+    // (divider/proofs/Powers.antt), so that a shift divides by it.
+    pub fn ticks(self, t: u32) -> Pwm
+        requires { ⌜ Short self ⌝ }
         ensures { λ p. ⌜ p ≡ onTicks t self ⌝ }
     {
         let place = wrapping_sub_u8(self.registers.cs, 1);
         if 6 < place {
             return self;
         }
-        let n = divider(self.registers.cs as u64);
-        let m = least(self.wave.remainder as u64, n - 1) + t;
-        self.steps(m >> (place as u64), (m & (n - 1)) as u8)
-    }
-
-    // A record of t ticks. A long wait is cut in two, so that no sum is too large.
-    pub fn ticks(self, t: u64) -> Pwm
-        ensures { λ p. ⌜ p ≡ onTicks t self ⌝ }
-    {
-        if t == 0 {
-            return self;
-        }
-        if LONG <= t {
-            return self.waited(t / 2).waited(t - t / 2);
-        }
-        self.waited(t)
+        let m = self.wave.remainder as u64 + t as u64;
+        let s = m >> (place as u64);
+        self.steps(s as u32, (m - (s << (place as u64))) as u8)
     }
 
     pub fn write_cnfg(self, v: u8) -> Pwm

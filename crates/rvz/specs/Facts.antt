@@ -13,6 +13,5 @@ Small (v ∷ vs) = (v < 2 ^ 64) × Small vs
 
 -- readings below 2^64 are printed as they are
 abbrev pub Plain : Type 0
-Plain =
-    (log : List ℕ) → Small (replayOf log 16_384 .readings)
+Plain = (log : List ℕ) → Small (replayOf log 16_384 .readings)
     → saidOf log ≡ textOf (replayOf log 16_384 .readings) (replayOf log 16_384 .applied) (numberOf (replayOf log 16_384 .course))

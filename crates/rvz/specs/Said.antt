@@ -22,8 +22,7 @@ use Rattle.rvz.specs.declared.Question.the-variants.{Pair, Rate, Other}
 -- ---- a log, with room for each of its readings, which are as their 8 bytes say
 
 unfoldable pub saidOf : List ℕ → List ℕ
-saidOf log =
-    let x = replayOf log 16_384 in
+saidOf log = let x = replayOf log 16_384 in
     textOf (readingsIn (bytesOf (leBytes 8) (x .readings))) (x .applied) (numberOf (x .course))
 
 -- ---- what the first word asks for; true is SPI

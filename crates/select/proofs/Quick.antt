@@ -9,15 +9,11 @@ use lib.Dec.{T, ltb, eqb, lit<}
 use lib.Bits.{bitAnd, and-le-r}
 use borrow.Author.Tests.{eqb-true, eq-eqb, ne-eqb}
 use Rattle.laws.proofs.Truth.{both-true}
-use Rattle.select.specs.Select.{fieldOf, some, threePin, allowed}
-use Rattle.select.specs.Facts.{Allowed}
+use Rattle.select.specs.Select.{fieldOf, some, three, allowed}
 use Rattle.select.specs.How.{marks, threes, twos}
 use Rattle.select.proofs.Marks.{same-pins, same-marks, double, pairs, alike, all-pairs}
 use Rattle.select.proofs.Fields.{inside}
-use Rattle.select.proofs.Proved.{allowed-means}
-
-abbrev three : ℕ → ℕ → Bool
-three s p = eqb (fieldOf s p) 3
+use Rattle.select.proofs.Means.{threePin, Allowed, allowed-means}
 
 iff : (a b : Bool) → (a ≡ true → b ≡ true) → (b ≡ true → a ≡ true) → a ≡ b
 iff true b f g = sym (f refl)

@@ -18,6 +18,6 @@ by-places (suc zero) v e h = refl
 by-places (suc (suc zero)) v e h = sym (ap wrap (+ℤ-idr (e .count)) ∙ wrap-fits (e .count) h)
 by-places (suc (suc (suc t))) v e h = refl
 
-pub pins-step : (routed : Bool) (e : Encoder) → countsInQuadrature routed e ≡ true → (v : ℕ) → e .seen ≡ true → mag (e .count) < 2147483648
+pub pins-step : (routed : Bool) (e : Encoder) → countsInQuadrature routed (e .cnfg) ≡ true → (v : ℕ) → e .seen ≡ true → mag (e .count) < 2147483648
     → onPins v e .count ≡ wrap (e .count +ℤ stepOf (places (e .pins) v))
 pins-step routed e q v seen h = ap (λ (r : Encoder). r .count) (pins-quadrature routed e q v seen) ∙ by-places (places (e .pins) v) v e h

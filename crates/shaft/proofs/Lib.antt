@@ -1,6 +1,6 @@
 mod Group
 mod Phase
-mod Balance
+pub mod Balance
 mod Size
 pub mod Counted
-pub mod Proved
+pub mod Motions

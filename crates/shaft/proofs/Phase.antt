@@ -1,17 +1,17 @@
 -- A move of at most two quarter-steps, by what the pins show of it.
 -- Assumes nothing.
 use mathlib.Core.Path.{_≡_, refl, ap, _∙_}
-use mathlib.Core.Bool.{Bool}
+use mathlib.Core.Bool.{Bool, _&&_}
 use Prim.Native.Nat.{ℕ, zero, suc, _+_, _*_, _%_, _≤_, _<_}
 use native.Mathlib.Omega.{arith}
-use mathlib.Core.List.{List}
-use lib.ListN.{replicate}
+use mathlib.Core.List.{List, [], _∷_}
+use lib.ListN.{replicate, getD}
 use lib.Dec.{T, eqb, eqb→eq, ltb, ltb→lt}
-use lib.IntN.{ℤ, pos, negsuc, sucℤ, predℤ, _+ℤ_, +ℤ-sucℤ, +ℤ-predℤ, +ℤ-idr}
+use lib.IntN.{ℤ, pos, negsuc, natAbs, sucℤ, predℤ, _+ℤ_, +ℤ-sucℤ, +ℤ-predℤ, +ℤ-idr}
 use Rattle.laws.proofs.Table.{every, at}
-use Rattle.bits.specs.Bits.{num}
+use Rattle.bits.specs.Bits.{bit, num, changes}
 use Rattle.encoder.specs.Encoder.{place, places}
-use Rattle.shaft.specs.Shaft.{quarter, pinsAt, phase, Small, both, stepOf}
+use Rattle.shaft.specs.Shaft.{quarter, phase, stepOf}
 
 -- ---- a test at each pair of numbers below 4
 
@@ -47,6 +47,9 @@ pub places-lt : (v w : ℕ) → places v w < 4
 places-lt v w = omega arith
 
 -- both pins changed: two places on
+abbrev pub both : ℕ → ℕ → Bool
+both v w = changes (bit 0 v) (bit 0 w) && changes (bit 1 v) (bit 1 w)
+
 pub both-is : (v w : ℕ) → v < 4 → w < 4 → num (both v w) ≡ num (eqb (places v w) 2)
 both-is v w h k =
     eqb→eq (num (both v w)) (num (eqb (places v w) 2)) (square (λ v w. eqb (num (both v w)) (num (eqb (places v w) 2))) tt v w h k)
@@ -65,7 +68,7 @@ quarter-lt (negsuc n) = omega arith
 pub phase-is : (p : ℤ) → phase p ≡ place (quarter p)
 phase-is p =
     eqb→eq (phase p) (place (quarter p))
-    (line (λ a. eqb (pinsAt a) (place a)) tt (quarter p) (quarter-lt p))
+    (line (λ a. eqb (getD (0 ∷ 1 ∷ 3 ∷ 2 ∷ []) a 0) (place a)) tt (quarter p) (quarter-lt p))
 
 pub quarter-suc : (p : ℤ) → quarter (sucℤ p) ≡ (quarter p + 1) % 4
 quarter-suc (pos n) = omega arith
@@ -86,6 +89,9 @@ quarter-add p (negsuc (suc n)) =
     ap quarter (+ℤ-predℤ p (negsuc n)) ∙ quarter-pred (p +ℤ negsuc n) ∙ ap (λ (a : ℕ). (a + 3) % 4) (quarter-add p (negsuc n)) ∙ omega arith
 
 -- ---- a move by m quarter-steps, at most two
+
+abbrev pub Small : ℤ → Type 0
+Small m = natAbs m ≤ 2
 
 -- 1 at a double that goes back
 abbrev pub backOf : ℤ → ℕ

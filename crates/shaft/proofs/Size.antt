@@ -6,7 +6,6 @@ use Prim.Native.Nat.{ℕ, zero, suc, _+_, _*_, _≤_, _<_}
 use native.Mathlib.Omega.{arith}
 use lib.IntN.{ℤ, pos, negsuc, natAbs, _+ℤ_, +ℤ-idr, +ℤ-invr, +ℤ-assoc, +ℤ-comm}
 use Rattle.shaft.specs.Shaft.{forward, backward, direction}
-use Rattle.shaft.specs.Motions.{Exceed}
 use Rattle.shaft.proofs.Group.{lift}
 
 abbrev up : ℤ → ℕ
@@ -55,7 +54,7 @@ goes-back (negsuc n) h = refl
 
 module _ (d : ℕ) where
   -- steps beyond 2d have the direction of the travel
-  pub beyond : (t s : ℤ) (k : ℕ) → k ≤ d → Exceed s d → Even t s (4 * k) (2 * d) → direction t ≡ direction s
+  pub beyond : (t s : ℤ) (k : ℕ) → k ≤ d → 2 * d < natAbs s → Even t s (4 * k) (2 * d) → direction t ≡ direction s
   beyond t (pos zero) k h l e = absurd (omega arith)
   beyond (pos zero) (pos (suc b)) k h l e = absurd (omega arith)
   beyond (pos (suc a)) (pos (suc b)) k h l e = refl

@@ -8,23 +8,17 @@ use Rattle.shaft.specs.Shaft.{Fits, travel, forward, backward, direction
 
 -- the gaps are 4k - 2d, "k from 0 to d", and no others
 pub record Gaps (vs : List ℕ) : Type 0 where
-  -- every fitting motion has one of them
+  -- A. for any motion "the gap is 4k - 2d for some k from 0 to d"
   pub every-motion : (ps : List ℤ) → Fits ps vs → (k : ℕ) × (k ≤ doubles vs) × (gapOf vs ps ≡ gap (doubles vs) k)
-  -- "for every k from 0 to d some fitting motion has exactly that gap"
+  -- B. "for every k from 0 to d some fitting motion has exactly that gap"
   pub every-gap : (k : ℕ) → k ≤ doubles vs → (ps : List ℤ) × Fits ps vs × (gapOf vs ps ≡ gap (doubles vs) k)
-
--- "the counted steps exceed 2d in size"
-abbrev pub Exceed : ℤ → ℕ → Type 0
-Exceed s d = 2 * d < natAbs s
 
 -- two fitting motions, one that does not go back and one that does not go forward, of which not both stand still
 pub record Open (vs : List ℕ) : Type 0 where
   pub one : List ℤ
   pub other : List ℤ
-  pub one-fits : Fits one vs
-  pub other-fits : Fits other vs
-  pub not-back : direction (travel one) ≡ backward → ⊥
-  pub not-forward : direction (travel other) ≡ forward → ⊥
+  pub fit : Fits one vs × Fits other vs
+  pub apart : (direction (travel one) ≡ backward → ⊥) × (direction (travel other) ≡ forward → ⊥)
   pub differ : direction (travel one) ≡ direction (travel other) → ⊥
   -- below 2d they are opposite
   pub opposite : natAbs (steps vs) < 2 * doubles vs → (direction (travel one) ≡ forward) × (direction (travel other) ≡ backward)
@@ -32,8 +26,8 @@ pub record Open (vs : List ℕ) : Type 0 where
 -- whether the pins settle the direction of the travel: by the counted steps and 2d
 pub record Sign (vs : List ℕ) : Type 0 where
   -- "if the counted steps exceed 2d in size, every fitting motion travels in their direction", and so does not stand still
-  pub settled : Exceed (steps vs) (doubles vs) → (ps : List ℤ) → Fits ps vs → direction (travel ps) ≡ direction (steps vs)
+  pub settled : 2 * doubles vs < natAbs (steps vs) → (ps : List ℤ) → Fits ps vs → direction (travel ps) ≡ direction (steps vs)
   -- "with d = 0 the travel is the counted steps exactly"
   pub clean : doubles vs ≡ 0 → (ps : List ℤ) → Fits ps vs → travel ps ≡ steps vs
   -- "where the steps do not exceed 2d, two fitting motions of opposite (or zero) direction exist unless d is 0"
-  pub unsettled : (Exceed (steps vs) (doubles vs) → ⊥) → (doubles vs ≡ 0 → ⊥) → Open vs
+  pub unsettled : natAbs (steps vs) ≤ 2 * doubles vs → 0 < doubles vs → Open vs

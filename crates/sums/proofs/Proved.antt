@@ -3,12 +3,12 @@
 use mathlib.Core.Path.{refl}
 use Rattle.rate.specs.Rate.{pwm, spi}
 use Rattle.rate.proofs.Answers.{fair-pwm, fair-spi, found-right}
-use Rattle.encoder.specs.Encoder.{flagsOf, statOf}
+use Rattle.encoder.specs.Encoder.{statOf}
 use Rattle.pwm.specs.Pwm.{ticked, waited}
 use Rattle.sums.specs.Paper.{PaperSums}
 
 pub paper-sums : PaperSums
-unfolding flagsOf statOf ticked waited
+unfolding statOf ticked waited
 paper-sums = record {
   pwm-1000 = record { choice = 1; divides = refl; answered = found-right pwm fair-pwm 1_000 0 };
   pwm-40 = record { choice = 5; divides = refl; answered = found-right pwm fair-pwm 40 0 };
@@ -20,10 +20,7 @@ paper-sums = record {
   spi-3650000-86758 = record { choice = 1; divides = refl; answered = found-right spi fair-spi 3_650_000 86_758 };
   pins-forward = refl;
   pins-backward = refl;
-  pins-double = refl;
-  pins-error = refl;
-  ticks-counter = refl;
-  ticks-output = refl;
-  ticks-steps = refl;
-  ticks-remainder = refl;
+  pins-double = (refl, refl);
+  ticks-1 = (refl, refl);
+  ticks-2 = (refl, refl);
 }

@@ -1,4 +1,4 @@
--- Paper 01, "Sums to check by hand": "Those marked * are proved, together, as a single fact about the rules", in the paper's order.
+-- Paper 01, "Sums to check by hand": "Those marked * are proved, together, as a single fact about the rules", in its order.
 -- Assumes nothing.
 use Prim.Native.Nat.{ℕ}
 use mathlib.Core.Path.{_≡_}
@@ -43,13 +43,10 @@ pub record PaperSums : Type 0 where
   -- "Pins 00, 10, 11, 01, 00: count 4". A is bit 0, so 10 is written 1
   pub pins-forward : played (0 ∷ 1 ∷ 3 ∷ 2 ∷ 0 ∷ []) enabled .count ≡ pos 4
   -- "Backward: CNTR 4,294,967,292"
-  pub pins-backward : encoder.cntrOf (played (0 ∷ 2 ∷ 3 ∷ 1 ∷ 0 ∷ []) enabled) ≡ 4_294_967_292
+  pub pins-backward : encoder.registerOf 2 (played (0 ∷ 2 ∷ 3 ∷ 1 ∷ 0 ∷ []) enabled) ≡ 4_294_967_292
   -- "00, 11: count 0, ERR 1"
-  pub pins-double : played (0 ∷ 3 ∷ []) enabled .count ≡ pos 0
-  pub pins-error : bit 1 (played (0 ∷ 3 ∷ []) enabled .stat) ≡ true
+  pub pins-double : (played (0 ∷ 3 ∷ []) enabled .count ≡ pos 0) × (bit 1 (played (0 ∷ 3 ∷ []) enabled .stat) ≡ true)
   -- "Fresh PWM, CS 1, MODE 1, MAX 3, CMP 2, 5 ticks: counter 1, output 1"
-  pub ticks-counter : channel.onTicks 5 (started 1) .wave .counter ≡ 1
-  pub ticks-output : channel.registerOf 5 (channel.onTicks 5 (started 1)) ≡ 1
+  pub ticks-1 : (channel.onTicks 5 (started 1) .wave .counter ≡ 1) × (channel.onTicks 5 (started 1) .wave .output ≡ true)
   -- "CS 2 and 5 ticks: two steps, remainder 1"
-  pub ticks-steps : channel.onTicks 5 (started 2) .wave .counter ≡ 2
-  pub ticks-remainder : channel.onTicks 5 (started 2) .wave .remainder ≡ 1
+  pub ticks-2 : (channel.onTicks 5 (started 2) .wave .counter ≡ 2) × (channel.onTicks 5 (started 2) .wave .remainder ≡ 1)

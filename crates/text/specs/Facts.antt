@@ -1,14 +1,12 @@
 -- What is shown of the texts. Assumes nothing.
 use mathlib.Core.Path.{_≡_}
-use mathlib.Core.List.{List, [], _∷_}
+use mathlib.Core.List.{List, [], _∷_, _++_}
 use Prim.Native.Nat.{ℕ}
-use Rattle.text.specs.Text.{textOf}
+use Rattle.text.specs.Text.{appliedWord, refusedWord, textOf}
 
 -- "Printed: `1`, then `applied 5 refused 0`"
 abbrev pub Printed : Type 0
-Printed =
-    textOf (1 ∷ []) 5 0
-    ≡ 49 ∷ 10 ∷ 97 ∷ 112 ∷ 112 ∷ 108 ∷ 105 ∷ 101 ∷ 100 ∷ 32 ∷ 53 ∷ 32 ∷ 114 ∷ 101 ∷ 102 ∷ 117 ∷ 115 ∷ 101 ∷ 100 ∷ 32 ∷ 48 ∷ 10 ∷ []
+Printed = textOf (1 ∷ []) 5 0 ≡ 49 ∷ 10 ∷ appliedWord ++ 53 ∷ 32 ∷ refusedWord ++ 48 ∷ 10 ∷ []
 
 -- what is printed tells the readings, K and R
 abbrev pub Told : Type 0

@@ -37,7 +37,7 @@ linesOf [] = []
 linesOf (v ∷ vs) = line (digitsOf v) ++ linesOf vs
 
 abbrev pub textOf : List ℕ → ℕ → ℕ → List ℕ
-textOf vs k r = linesOf vs ++ line (appliedWord ++ digitsOf k ++ (space ++ refusedWord) ++ digitsOf r)
+textOf vs k r = linesOf vs ++ line (appliedWord ++ digitsOf k ++ (32 ∷ refusedWord) ++ digitsOf r)
 
 -- the readings in the output's bytes, 8 bytes each: the first n, and all of them
 unfoldable pub numbersIn : ℕ → List ℕ → List ℕ

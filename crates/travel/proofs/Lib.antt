@@ -1,5 +1,5 @@
+mod Events
 mod Counting
-mod Lists
 mod Banks
 mod Pins
 pub mod Proved

@@ -1,4 +1,5 @@
 use borrow.Author.Needs.{needs}
+use Rattle.i2c.proofs.States.{in-idle, in-tx, in-rx}
 use Rattle.i2c.proofs.matches.Statement.{statement}
 use Rattle.i2c.proofs.matches.Tie as tie
 
@@ -9,6 +10,6 @@ matches-spec =
     (λ c. search needs)
     (λ c. search needs)
     (λ c. search needs)
-    (λ c. search needs)
-    (λ c. search needs)
-    (λ c. search needs))
+    (λ c. search in-idle)
+    (λ c. search in-tx)
+    (λ c. search in-rx))

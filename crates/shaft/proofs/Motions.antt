@@ -1,16 +1,17 @@
--- The facts of specs/Motions.antt.
+-- The facts of specs/Motions.antt, of any pins that are 0 to 3.
 -- Assumes nothing.
-use mathlib.Core.Path.{_≡_, refl, sym, _∙_}
+use mathlib.Core.Path.{_≡_, refl, sym, ap, _∙_}
 use mathlib.Core.List.{List, [], _∷_}
-use Prim.Native.Nat.{ℕ, zero, suc, _*_, _≤_}
+use Prim.Native.Nat.{ℕ, zero, suc, _*_, _≤_, _<_}
 use native.Mathlib.Omega.{arith}
-use lib.IntN.{ℤ, pos, negℤ, natAbs, _+ℤ_, +ℤ-idr, +ℤ-assoc, +ℤ-comm, +ℤ-invr}
+use lib.ListN.{length, getD}
+use lib.IntN.{ℤ, pos, negℤ, natAbs, _+ℤ_, _-ℤ_, +ℤ-idr, +ℤ-assoc, +ℤ-comm, +ℤ-invr}
 use Rattle.encoder.specs.Encoder.{place}
-use Rattle.shaft.specs.Shaft.{Fits, travel, doubles, steps, doublesFrom, stepsFrom, lastFrom, AllPins, gapOf, gap}
-use Rattle.shaft.specs.Motions.{Gaps, Exceed, Open, Sign}
+use Rattle.shaft.specs.Shaft.{Fits, travel, doubles, steps, gapOf, gap}
+use Rattle.shaft.specs.Motions.{Gaps, Open, Sign}
 use Rattle.shaft.proofs.Group.{travels, crossed}
 use Rattle.shaft.proofs.Phase.{starts}
-use Rattle.shaft.proofs.Balance.{Balanced, balance, reach}
+use Rattle.shaft.proofs.Balance.{AllPins, lastFrom, Balanced, balance, reach}
 use Rattle.shaft.proofs.Size.{even, beyond, top, bottom, far, ends, same, never-back, never-forward}
 
 -- ---- a motion's travel and the counted steps, of d doubles k back
@@ -18,23 +19,27 @@ use Rattle.shaft.proofs.Size.{even, beyond, top, bottom, far, ends, sam
 abbrev Tied : List ℕ → List ℤ → ℕ → Type 0
 Tied vs ps k = travel ps +ℤ pos (4 * k) ≡ steps vs +ℤ pos (2 * doubles vs)
 
+last-is : (p d : ℤ) (ps : List ℤ) → getD (p ∷ ps) (length ps) d ≡ lastFrom p ps
+last-is p d [] = refl
+last-is p d (q ∷ ps) = last-is q d ps
+
 tied : (v : ℕ) (p : ℤ) (vs : List ℕ) (ps : List ℤ) (k : ℕ) → Balanced v p vs ps k → Tied (v ∷ vs) (p ∷ ps) k
 tied v p vs ps k b =
-    travels _+ℤ_ +ℤ-assoc +ℤ-comm (pos 0) negℤ +ℤ-idr +ℤ-invr p (stepsFrom v vs) (pos (2 * doublesFrom v vs)) (lastFrom p ps) (pos (4 * k)) b
+    ap (λ (z : ℤ). z -ℤ p +ℤ pos (4 * k)) (last-is p p ps)
+    ∙ travels _+ℤ_ +ℤ-assoc +ℤ-comm (pos 0) negℤ +ℤ-idr +ℤ-invr p (steps (v ∷ vs)) (pos (2 * doubles (v ∷ vs))) (lastFrom p ps) (pos (4 * k)) b
 
 motion-tied : (vs : List ℕ) (ps : List ℤ) → Fits ps vs → (k : ℕ) × (k ≤ doubles vs) × Tied vs ps k
 motion-tied [] [] f = (0, omega arith, refl)
-motion-tied [] (p ∷ ps) f = absurd f
-motion-tied (v ∷ vs) [] f = absurd f
-motion-tied (v ∷ vs) (p ∷ ps) f = let b = balance v p vs ps (f .0) (f .1) (f .2) in (b .0, b .1, tied v p vs ps (b .0) (b .2))
+motion-tied [] (p ∷ ps) f = let e = f .0 in let z : _≡_ {A = ℕ} 0 1 = cc in absurd (omega arith)
+motion-tied (v ∷ vs) [] f = let e = f .0 in let z : _≡_ {A = ℕ} 0 1 = cc in absurd (omega arith)
+motion-tied (v ∷ vs) (p ∷ ps) f = let b = balance v p vs ps (f .0) (f .1) in (b .0, b .1, tied v p vs ps (b .0) (b .2))
 
 gap-tied : (vs : List ℕ) → AllPins vs → (k : ℕ) → k ≤ doubles vs → (ps : List ℤ) × Fits ps vs × Tied vs ps k
-gap-tied [] a zero h = ([], tt, refl)
+gap-tied [] a zero h = ([], (refl, tt), refl)
 gap-tied [] a (suc k) h = absurd (omega arith)
 gap-tied (v ∷ vs) a k h =
-    let s = starts v (a .0) in
-    let r = reach v (pos (place v)) vs s (a .1) k h in
-    (pos (place v) ∷ r .0, (s, r .1, r .2), tied v (pos (place v)) vs (r .0) k (r .3))
+    let r = reach v (pos (place v)) vs (starts v (a .0)) (a .1) k h in
+    (pos (place v) ∷ r .0, (r .1, r .2), tied v (pos (place v)) vs (r .0) k (r .3))
 
 -- ---- the gaps
 
@@ -64,10 +69,9 @@ sign vs a = record {
         let d-none : 2 * d ≡ 0 = omega arith in
         sym (+ℤ-idr t) ∙ rw (k-none, d-none) at e ∙ +ℤ-idr s
 
-    two : (Exceed (steps vs) (doubles vs) → ⊥) → (doubles vs ≡ 0 → ⊥) → Open vs
-    two not-more some =
+    two : natAbs (steps vs) ≤ 2 * doubles vs → 0 < doubles vs → Open vs
+    two l some =
         let d = doubles vs in
-        let l : natAbs (steps vs) ≤ 2 * d = omega arith in
         let x = gap-tied vs a 0 (omega arith) in
         let y = gap-tied vs a d (omega arith) in
         let t = travel (x .0) in
@@ -79,10 +83,8 @@ sign vs a = record {
         record {
           one = x .0;
           other = y .0;
-          one-fits = x .1;
-          other-fits = y .1;
-          not-back = never-back t up;
-          not-forward = never-forward u down;
-          differ = λ e. some (far d t u (steps vs) high low (same t u up down e));
+          fit = (x .1, y .1);
+          apart = (never-back t up, never-forward u down);
+          differ = λ e. omega (arith, far d t u (steps vs) high low (same t u up down e));
           opposite = ends d t u (steps vs) high low;
         }
