@@ -16,9 +16,14 @@ use Rattle.laws.proofs.Cases.{taken, left}
 use Rattle.laws.proofs.Truth.{neither}
 use Rattle.encoder.specs.declared.Encoder.{Encoder}
 use Rattle.encoder.specs.Count.{pattern, wrap}
-use Rattle.encoder.specs.Encoder.{en, rst, mode, cleared, marked, erred, stored, kept, counted, places, quadrature, clocked, onPins, onCnfg, countsInQuadrature, registerOf}
+use Rattle.encoder.specs.Encoder.{en, rst, mode, statOf, cleared, marked, erred, stored, kept, counted, places, quadrature, clocked, onPins, onCnfg, countsInQuadrature, registerOf}
 use Rattle.encoder.proofs.Counting.{first-kept, pins-quadrature}
 use Rattle.encoder.proofs.Machine.{held, held-is, bits-are}
+
+-- the step from 1 passes no border
+plain : (back : Bool) (s : ℕ) → marked back 1 s ≡ statOf back (bit 1 s) (bit 2 s || false) (bit 3 s || false) (bit 4 s || (bit 2 s && false)) (bit 5 s || (bit 3 s && false))
+plain true s = refl
+plain false s = refl
 
 -- ---- a counted step, to the count n and the STAT s
 
@@ -36,15 +41,13 @@ module _ (v : ℕ) (e r : Encoder) (n : ℤ) (s : ℕ) (small : mag (e .count) <
       step back next (stat ∙ ap (λ (i : ℕ). marked back i (e .stat)) (sym end ∙ bits-are (e .count) small))
 
   -- between the ends
-  pub step-up : (ofZ w32 (e .count) ≡ 4294967295 → ⊥) → (ofZ w32 (e .count) ≡ 2147483647 → ⊥) → n ≡ wrap (held (e .count) +ℤ pos 1)
-      → s ≡ marked false 0 (e .stat) → r ≡ counted false v e
-  step-up not-unsigned not-signed next stat =
-      step false next
-      (rw (ne-eqb (pattern (e .count)) 4294967295 (λ h. not-unsigned (bits-are (e .count) small ∙ h)), ne-eqb (pattern (e .count)) 2147483647 (λ h. not-signed (bits-are (e .count) small ∙ h)))
-      stat)
-
-  pub step-down : n ≡ wrap (held (e .count) +ℤ negsuc 0) → s ≡ marked true 0 (e .stat) → r ≡ counted true v e
-  step-down next stat = step true next stat
+  pub step-between : (back : Bool) → (ofZ w32 (e .count) ≡ cond back 0 4294967295 → ⊥) → (ofZ w32 (e .count) ≡ cond back 2147483648 2147483647 → ⊥)
+      → n ≡ wrap (held (e .count) +ℤ cond back (negsuc 0) (pos 1)) → s ≡ marked back 1 (e .stat) → r ≡ counted back v e
+  step-between back not-unsigned not-signed next stat =
+      step back next
+      (rw (ne-eqb (pattern (e .count)) (cond back 0 4294967295) (λ h. not-unsigned (bits-are (e .count) small ∙ h)),
+        ne-eqb (pattern (e .count)) (cond back 2147483648 2147483647) (λ h. not-signed (bits-are (e .count) small ∙ h)))
+      (stat ∙ plain back (e .stat)))
 
 -- ---- MODE 0
 

@@ -52,12 +52,19 @@ kept v e = stored v (e .count) (e .stat) e
 
 -- ---- one counted step, forward (false) or back (true)
 
--- "DIR (1 if the last counted step was backward)"; b is the bit pattern from which it goes: at the unsigned end "UOVR (step from
--- 4,294,967,295 up to 0)", at the signed end "SOVR (step from 2,147,483,647 up to -2,147,483,648)"; "UOERR, SOERR (the same again
--- with the first flag still set)"
+-- whether it passes the unsigned or the signed border, b being the bit pattern from which it goes: "UOVR (step from 4,294,967,295 up
+-- to 0)", "also set by a step from 0 down to 4,294,967,295"; "SOVR (step from 2,147,483,647 up to -2,147,483,648)", or "from
+-- -2,147,483,648 down to 2,147,483,647"
+abbrev pub passesUnsigned : Bool → ℕ → Bool
+passesUnsigned back b = eqb b (cond back 0 4294967295)
+
+abbrev pub passesSigned : Bool → ℕ → Bool
+passesSigned back b = eqb b (cond back 2147483648 2147483647)
+
+-- "DIR (1 if the last counted step was backward)"; "UOERR, SOERR (the same again with the first flag still set)"
 abbrev pub marked : Bool → ℕ → ℕ → ℕ
-marked back b s = let uend = not back && eqb b 4294967295 in let send = not back && eqb b 2147483647 in
-    statOf back (bit 1 s) (bit 2 s || uend) (bit 3 s || send) (bit 4 s || (bit 2 s && uend)) (bit 5 s || (bit 3 s && send))
+marked back b s = let uovr = passesUnsigned back b in let sovr = passesSigned back b in
+    statOf back (bit 1 s) (bit 2 s || uovr) (bit 3 s || sovr) (bit 4 s || (bit 2 s && uovr)) (bit 5 s || (bit 3 s && sovr))
 
 -- "One place forward is +1, one back is -1". "The count is a 32-bit signed number that wraps on purpose"
 abbrev pub counted : Bool → ℕ → Encoder → Encoder

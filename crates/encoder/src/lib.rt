@@ -1,4 +1,5 @@
 // One encoder: its count, the registers CNFG and STAT as numbers, and the pins last seen.
+use bits::number;
 ghost use mathlib.Core.Path.{_≡_};
 ghost use mathlib.Core.Bool.{Bool, cond};
 ghost use lib.IntN.{pos, negsuc, _+ℤ_};
@@ -67,34 +68,28 @@ fn kept_count(rst: bool, at: i32) -> i32
 
 // ---- STAT as a number: each rule is a few operations on its six bits
 
-fn marked_up(stat: u32) -> u32
-    ensures { λ r. ⌜ r ≡ marked Bool.false 0 stat ⌝ }
+// A step that passes no border, as the one from 1.
+fn marked(back: bool, stat: u32) -> u32
+    ensures { λ r. ⌜ r ≡ marked back 1 stat ⌝ }
 {
     let s = stat % 64;
-    s / 2 * 2
+    s / 2 * 2 | (number(back) as u32)
 }
 
 // UOVR, and UOERR where UOVR is set already.
-fn marked_past_unsigned(stat: u32) -> u32
-    ensures { λ r. ⌜ r ≡ marked Bool.false 4294967295 stat ⌝ }
+fn marked_past_unsigned(back: bool, stat: u32) -> u32
+    ensures { λ r. ⌜ r ≡ marked back (cond back 0 4294967295) stat ⌝ }
 {
     let s = stat % 64;
-    s / 2 * 2 | 4 | (s / 4 % 2 * 16)
+    s / 2 * 2 | (number(back) as u32) | 4 | (s / 4 % 2 * 16)
 }
 
 // SOVR, and SOERR where SOVR is set already.
-fn marked_past_signed(stat: u32) -> u32
-    ensures { λ r. ⌜ r ≡ marked Bool.false 2147483647 stat ⌝ }
+fn marked_past_signed(back: bool, stat: u32) -> u32
+    ensures { λ r. ⌜ r ≡ marked back (cond back 2147483648 2147483647) stat ⌝ }
 {
     let s = stat % 64;
-    s / 2 * 2 | 8 | (s / 8 % 2 * 32)
-}
-
-fn marked_down(stat: u32) -> u32
-    ensures { λ r. ⌜ r ≡ marked Bool.true 0 stat ⌝ }
-{
-    let s = stat % 64;
-    s | 1
+    s / 2 * 2 | (number(back) as u32) | 8 | (s / 8 % 2 * 32)
 }
 
 fn erred(stat: u32) -> u32
@@ -164,12 +159,12 @@ impl Encoder {
         let at = self.count;
         let next = wrapping_up(at);
         if at == -1 {
-            return self.stored(v, next, marked_past_unsigned(self.stat));
+            return self.stored(v, next, marked_past_unsigned(false, self.stat));
         }
         if at == 2147483647 {
-            return self.stored(v, next, marked_past_signed(self.stat));
+            return self.stored(v, next, marked_past_signed(false, self.stat));
         }
-        self.stored(v, next, marked_up(self.stat))
+        self.stored(v, next, marked(false, self.stat))
     }
 
     fn counted_down(self, v: u8) -> Encoder
@@ -177,7 +172,13 @@ impl Encoder {
     {
         let at = self.count;
         let next = wrapping_down(at);
-        self.stored(v, next, marked_down(self.stat))
+        if at == 0 {
+            return self.stored(v, next, marked_past_unsigned(true, self.stat));
+        }
+        if at == -2147483648 {
+            return self.stored(v, next, marked_past_signed(true, self.stat));
+        }
+        self.stored(v, next, marked(true, self.stat))
     }
 
     // MODE 0, by how many places forward the pins are.

@@ -1,10 +1,10 @@
 -- `encoder::marked_past_unsigned` meets its contract. Assumes nothing.
 use borrow.Author.Needs.{needs}
-use mathlib.Core.Bool.{true, false, _&&_, _||_}
+use mathlib.Core.Bool.{Bool, cond}
 use Prim.Native.Nat.{_*_, _/_, _%_}
 use lib.Bits.{bitOr}
 use Rattle.encoder.specs.Encoder.{statOf}
-use Rattle.encoder.proofs.Stat.{by-bits}
+use Rattle.encoder.proofs.Stat.{by-direction}
 use Rattle.encoder.proofs.marked_past_unsigned.Statement.{statement}
 use Rattle.encoder.proofs.marked_past_unsigned.Tie as tie
 
@@ -14,5 +14,7 @@ marked-past-unsigned-spec =
     tie.close
     (tie.spec
     (λ c. search needs)
+    (λ c κs. search needs)
     (λ c. search needs)
-    (λ c. by-bits (λ s. bitOr (bitOr (s / 2 * 2) 4) (s / 4 % 2 * 16)) (λ d r u s a o. statOf false r (u || true) (s || false) (a || (u && true)) (o || (s && false))) tt (c .args .stat)))
+    (λ c. search needs)
+    (λ c. by-direction (λ (b : Bool). cond b 0 4294967295) (λ d s. bitOr (bitOr (bitOr (s / 2 * 2) d) 4) (s / 4 % 2 * 16)) tt tt (c .before .args .back) _ (c .number .ensures .0) (c .before .args .stat)))

@@ -1,6 +1,6 @@
 -- `encoder::Encoder::counted_down` meets its contract. Assumes nothing.
 use borrow.Author.Needs.{needs}
-use Rattle.encoder.proofs.Rules.{step-down}
+use Rattle.encoder.proofs.Rules.{step-at, step-between}
 use Rattle.encoder.proofs.Encoder.counted_down.Statement.{statement}
 use Rattle.encoder.proofs.Encoder.counted_down.Tie as tie
 
@@ -11,4 +11,10 @@ counted-down-spec =
     (λ c κs. search needs)
     (λ c κs. search needs)
     (λ c κs. search needs)
-    (λ c. search step-down))
+    (λ c. search step-at)
+    (λ c κs. search needs)
+    (λ c κs. search needs)
+    (λ c. search step-at)
+    (λ c κs. search needs)
+    (λ c κs. search needs)
+    (λ c. search step-between))

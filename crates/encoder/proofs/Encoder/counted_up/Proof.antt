@@ -1,6 +1,6 @@
 -- `encoder::Encoder::counted_up` meets its contract. Assumes nothing.
 use borrow.Author.Needs.{needs}
-use Rattle.encoder.proofs.Rules.{step-at, step-up}
+use Rattle.encoder.proofs.Rules.{step-at, step-between}
 use Rattle.encoder.proofs.Encoder.counted_up.Statement.{statement}
 use Rattle.encoder.proofs.Encoder.counted_up.Tie as tie
 
@@ -17,4 +17,4 @@ counted-up-spec =
     (λ c. search step-at)
     (λ c κs. search needs)
     (λ c κs. search needs)
-    (λ c. search step-up))
+    (λ c. search step-between))
