@@ -57,9 +57,11 @@ static inline uint64_t rvz_reading(const uint8_t *out, size_t index)
 
 /* ---- Rates ---- */
 
-/* The divider choice and X whose rate is nearest to `rate`, in hertz: PWM 40 to 40,000, SPI 40 to 4,000,000. `tolerance` is the largest
- * error allowed, in millionths of `rate`, at most 1,000,000. Of equally near pairs the one with the shorter period is given, then the one
- * with the smaller divider. Refusals: 12, 13, 14, tested in this order. Read the answer by rvz_choice and rvz_x. */
+/* The divider choice and X whose rate is nearest to `rate`, and their period. `rate` is in millihertz, thousandths of a hertz, so that
+ * 40125 is 40.125 Hz: PWM 40,000 to 40,000,000, SPI 40,000 to 4,000,000,000. A number of hertz below 40,000 is refused by 12; a larger one
+ * is taken for millihertz. `tolerance` is the largest error allowed, in millionths of `rate`, at most 1,000,000. Of equally near pairs the
+ * one with the shorter period is given, then the one with the smaller divider. Refusals: 12, 13, 14, tested in this order. Read the answer
+ * by rvz_choice, rvz_x and rvz_pair_period. */
 uint64_t rvz_find_pwm(uint64_t rate, uint64_t tolerance);
 uint64_t rvz_find_spi(uint64_t rate, uint64_t tolerance);
 
@@ -69,14 +71,17 @@ static inline unsigned rvz_choice(uint64_t answer) { return (unsigned)(answer >>
 /* X, 0 to 65,535. */
 static inline unsigned rvz_x(uint64_t answer) { return (unsigned)(answer >> 16 & 0xFFFF); }
 
+/* The period P of the pair, in ticks of the clock: its rate is 40,000,000 / P hertz. */
+static inline uint32_t rvz_pair_period(uint64_t answer) { return (uint32_t)(answer >> 32); }
+
 /* The rate that a divider choice and X give, as a fraction of hertz: rvz_clock(answer) / rvz_period(answer). Refusal: 15. */
 uint64_t rvz_rate_pwm(uint64_t choice, uint64_t x);
 uint64_t rvz_rate_spi(uint64_t choice, uint64_t x);
 
-/* The period P, in ticks of the clock. */
+/* The period P, in ticks of the clock. Of a pair that was found, read it by rvz_pair_period: it stands in another place. */
 static inline uint32_t rvz_period(uint64_t answer) { return (uint32_t)(answer >> 8 & 0xFFFFFF); }
 
-/* The clock's rate: 40,000,000. */
+/* The clock's rate in hertz: 40,000,000. */
 static inline uint32_t rvz_clock(uint64_t answer) { return (uint32_t)(answer >> 32); }
 
 #ifdef __cplusplus

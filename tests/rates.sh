@@ -45,24 +45,29 @@ says() {
 }
 
 program() {
-    says 'choice 1 x 39999' pwm 1000 0
-    says 'choice 5 x 62499' pwm 40 0
-    says 'refused 12' pwm 39 0
-    says 'refused 12' pwm 40001 0
-    says 'refused 14' pwm 610 3
-    says 'choice 2 x 32786' pwm 610 4
-    says 'refused 13' pwm 610 1000001
-    says 'choice 1 x 4' spi 4000000 0
-    says 'choice 4 x 62499' spi 40 0
-    says 'refused 14' spi 3650000 86757
-    says 'choice 1 x 5' spi 3650000 86758
+    says 'choice 1 x 39999 period 40000' pwm 1000000 0
+    says 'choice 5 x 62499 period 1000000' pwm 40000 0
+    says 'choice 1 x 999 period 1000' pwm 40000000 0
+    says 'choice 5 x 62304 period 996880' pwm 40125 100
+    says 'refused 14' pwm 40125 0
+    says 'refused 12' pwm 39999 0
+    says 'refused 12' pwm 40000001 0
+    says 'refused 12' pwm 610 4
+    says 'refused 14' pwm 610000 3
+    says 'choice 2 x 32786 period 65574' pwm 610000 4
+    says 'refused 13' pwm 610000 1000001
+    says 'choice 1 x 4 period 10' spi 4000000000 0
+    says 'refused 12' spi 4000000001 0
+    says 'choice 4 x 62499 period 1000000' spi 40000 0
+    says 'refused 14' spi 3650000000 86757
+    says 'choice 1 x 5 period 12' spi 3650000000 86758
     says 'refused 12' spi 18446744073709551615 18446744073709551615
     says '40000000 40000' pwm-rate 1 39999
     says '40000000 8388608' spi-rate 7 65535
     says 'refused 15' pwm-rate 0 0
     says 'refused 15' spi-rate 8 0
     says 'refused 15' spi-rate 1 65536
-    says 'choice 1 x 39999' pwm 001000 0
+    says 'choice 1 x 39999 period 40000' pwm 001000000 0
 
     local bad='is no decimal number from 0 to 18446744073709551615'
     says "RATE $bad" pwm 18446744073709551616 0

@@ -21,7 +21,7 @@ use Rattle.bank.specs.Bank.{fresh}
 use Rattle.bank.specs.Bank as bank
 use Rattle.replay.specs.Replay.{turnOf, played, playOf, replayFrom, replayOf, written}
 use Rattle.replay.specs.Facts.{whole}
-use Rattle.rate.specs.Rate.{pwm, spi, period, Answer, Outcome, outside, loose, none, pair}
+use Rattle.rate.specs.Rate.{pwm, spi, Answer, Outcome, outside, loose, none, pair}
 use Rattle.rate.specs.declared.Rule.{Rule}
 use Rattle.rate.specs.declared.Found.the-variants.{Pair}
 use Rattle.excluded.specs.Excluded.{Meets, runFrom, Excluded}
@@ -54,14 +54,14 @@ right log out = (ap stopOf (at (trailerOf log)), ap (λ x. written x out) (at (t
 
 -- ---- requests with tolerance 0: the period of a pair that is answered, times the rate, is the clock
 
-exact : (u : Rule) (f : ℕ) {v : ℕ × ℕ × ℕ} → Outcome u f 0 v → v .0 ≡ 0 → f * period u (v .1) (v .2) ≡ u .clock
+exact : (u : Rule) (f : ℕ) {v : ℕ × ℕ × ℕ × ℕ} → Outcome u f 0 v → v .0 ≡ 0 → f * v .3 ≡ u .clock
 exact u f (outside a) e = absurd (omega arith)
 exact u f (loose a t) e = absurd (omega arith)
 exact u f (none a t g) e = absurd (omega arith)
 exact u f (pair a t w) e = let h = w .within in omega arith
 
-fixed : (u : Rule) (f g c x : ℕ) → ((f tol : ℕ) → Answer u f tol (Pair c x)) → (f * period u c x ≡ u .clock) × (g * period u c x ≡ u .clock)
-fixed u f g c x h = (exact u f (h f 0) refl, exact u g (h g 0) refl)
+fixed : (u : Rule) (f g c x p : ℕ) → ((f tol : ℕ) → Answer u f tol (Pair c x p)) → (f * p ≡ u .clock) × (g * p ≡ u .clock)
+fixed u f g c x p h = (exact u f (h f 0) refl, exact u g (h g 0) refl)
 
 -- ---- all
 
@@ -73,7 +73,7 @@ excluded = record {
   one-reading = λ v h. let a : v % 256 ≡ 1 = ap first-byte (h whole output .1) in let b : v % 256 ≡ 0 = ap first-byte (h reading output .1) in omega arith;
   first-only = λ h. let e : _≡_ {A = ℕ} 0 1 = ap first-byte (h whole output .1) in omega arith;
   invented-tally = λ k h. applied-five _ (ap (λ (a : Stop). a .applied) (h whole output .0));
-  fixed-pwm = λ c x h. let e = fixed pwm 1_000 40 c x h in omega arith;
-  fixed-spi = λ c x h. let e = fixed spi 4_000_000 40 c x h in omega arith;
+  fixed-pwm = λ c x p h. let e = fixed pwm 1_000_000 40_000 c x p h in omega arith;
+  fixed-spi = λ c x p h. let e = fixed spi 4_000_000_000 40_000 c x p h in omega arith;
   right = right;
 }

@@ -50,8 +50,8 @@ firstOnly (r ∷ rs) = resumed (λ b q. lift (λ (t : Bank). b) (turnOf b q)) (p
 abbrev pub more : ℕ → Run Bank ℕ → Run Bank ℕ
 more k x = record { course = x .course; state = x .state; applied = x .applied + k; readings = x .readings }
 
--- by paper 01's whole log, and a log that reads SELECT where it is 0; by paper 01's requests PWM 1,000 and 40, SPI 4,000,000 and
--- 40 with tolerance 0
+-- by paper 01's whole log, and a log that reads SELECT where it is 0; by paper 01's requests PWM 1,000 and 40 Hz, SPI 4,000,000
+-- and 40 Hz with tolerance 0
 pub record Excluded : Type 0 where
   -- "a replay that refuses all", each by any number but 0
   pub refuses-all : (k : List (List ℕ) → ℕ) → Meets (λ rs. halted fresh 0 [] (suc (k rs))) → ⊥
@@ -60,8 +60,8 @@ pub record Excluded : Type 0 where
   pub one-reading : (v : ℕ) → Meets (λ rs. retold (λ (w : ℕ). v) (played rs)) → ⊥
   pub first-only : Meets firstOnly → ⊥
   pub invented-tally : (k : List (List ℕ) → ℕ) → Meets (λ rs. more (suc (k rs)) (played rs)) → ⊥
-  -- "a rate finder with a fixed pair", any pair
-  pub fixed-pwm : (c x : ℕ) → ((f tol : ℕ) → Answer pwm f tol (Pair c x)) → ⊥
-  pub fixed-spi : (c x : ℕ) → ((f tol : ℕ) → Answer spi f tol (Pair c x)) → ⊥
+  -- "a rate finder with a fixed pair", any pair and period
+  pub fixed-pwm : (c x p : ℕ) → ((f tol : ℕ) → Answer pwm f tol (Pair c x p)) → ⊥
+  pub fixed-spi : (c x p : ℕ) → ((f tol : ℕ) → Answer spi f tol (Pair c x p)) → ⊥
   -- the run that paper 01 asks for is not excluded
   pub right : Meets played

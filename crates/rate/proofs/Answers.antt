@@ -2,30 +2,49 @@
 use mathlib.Core.Path.{_≡_, refl, sym, ap, _∙_}
 use mathlib.Core.Bool.{cond}
 use Prim.Native.Nat.{ℕ, _+_, _-_, _*_, _^_, _≤_, _<_}
-use native.Mathlib.Nat.{mul-pos, mul-le-mul-right, eq-of-mul-eq-mul-left, le-antisymm}
+use native.Mathlib.Nat.{mul-pos, mul-le-mul, mul-le-mul-right, eq-of-mul-eq-mul-left, le-antisymm}
 use native.Mathlib.Omega.{arith}
 use lib.Dec.{ltb, leb}
 use Rattle.laws.proofs.Cases.{by-lt, by-le}
 use Rattle.divider.specs.Divider.{dividerOf}
 use Rattle.rate.specs.declared.Rule.{Rule}
 use Rattle.rate.specs.declared.Bracket.{Bracket}
+use Rattle.rate.specs.declared.Nearest.{Nearest}
 use Rattle.rate.specs.declared.Found.{Found}
 use Rattle.rate.specs.declared.Found.the-variants.{Pair, Refused}
-use Rattle.rate.specs.Rate.{apart, period, IsPair, AsGood, Within, Wins, NoPair, InRange, Outcome, outside, loose, none, pair, Answer, pwm, spi}
-use Rattle.rate.specs.Settled.{Settled}
-use Rattle.rate.specs.How.{Fair, Fit, Brackets, nearerOf, pairOf}
+use Rattle.rate.specs.Rate.{apart, period, IsPair, AsGood, Within, Wins, InRange, Outcome, outside, loose, none, pair, Answer, pwm, spi}
+use Rattle.rate.specs.Facts.{Settled, hertzPwm, hertzSpi}
+use Rattle.rate.specs.How.{Fair, Fit, Brackets, Asked, undividedOf, nearerOf, pairOf}
 use Rattle.rate.proofs.Dividers.{some, one, next}
 use Rattle.rate.proofs.Order.{within-near}
-use Rattle.rate.proofs.Sides.{Least, pair-pos, some-count, fewer-best, more-best, undivided, shortened, first-brackets, shortened-brackets}
+use Rattle.rate.proofs.Sides.{Least, pair-pos, some-count, fewer-best, more-best, shortened, first-brackets, shortened-brackets}
 
-pub fitting : (u : Rule) → Fair u → (f : ℕ) → InRange u f → Fit (u .clock) (u .base) f
-fitting u fair f range =
-    let reach : u .low * u .base ≤ f * u .base = mul-le-mul-right (u .base) (range .0) in omega arith
+-- a rate in range is such as the finder takes
+module _ (u : Rule) (fair : Fair u) (f : ℕ) (range : InRange u f) where
+  pub first-fits : f * u .base < 2 ^ 64
+  first-fits = omega (arith, mul-le-mul (range .1) (fair .twice), fair .high)
+
+  pub fitting : Fit (u .clock) (f * u .base)
+  fitting =
+      let reach : u .low * u .base ≤ f * u .base = mul-le-mul-right (u .base) (range .0) in
+      let wide : f * u .base ≤ u .high * 2 = mul-le-mul (range .1) (fair .twice) in
+      let some : 0 < f * u .base = mul-pos (omega (arith, fair .low, range .0)) (fair .base) in
+      omega (arith, fair)
+
+  pub step-some : 0 < f * u .base
+  step-some = fitting .some
+
+  module _ (tol : ℕ) (few : tol ≤ 1_000_000) (a : Bracket) (low : a .low < 65_536) where
+    pub finest-asked : Brackets (u .clock) (f * u .base) a → Asked u f tol a
+    finest-asked h = record { fair = fair; range = range; few = few; bracket = h; low = low }
+
+    pub undivided-asked : a ≡ undividedOf (u .clock) (f * u .base) → Asked u f tol a
+    undivided-asked e = finest-asked (rw e (first-brackets (u .clock) (f * u .base) fitting))
 
 -- of the pairs of w counts, the one that is answered has the smallest divider
 module _ (c w : ℕ) (hc : 1 ≤ c) (lc : c ≤ 7) (hw : 1 ≤ w) (lw : w ≤ 65_536) (full : 1 < c → 32_768 ≤ w) where
-  least : (Q : Found → Type 0) → ((d x : ℕ) → Least (dividerOf c) w d x → Q (Pair d x)) → Q (pairOf c w)
-  least Q g =
+  least : (p : ℕ) (Q : Found → Type 0) → ((d x : ℕ) → Least (dividerOf c) w d x → Q (Pair d x p)) → Q (pairOf c w p)
+  least p Q g =
       by-lt Q 1 c
       (λ h. by-le Q w 32_768 (λ l. g _ _ (smaller h (omega (arith, full h)))) (λ l. g _ _ (kept (λ h. l))))
       (λ h. g _ _ (kept (λ t. absurd (omega arith))))
@@ -42,8 +61,14 @@ module _ (c w : ℕ) (hc : 1 ≤ c) (lc : c ≤ 7) (hw : 1 ≤ w) (lw : w ≤ 65
           let d : dividerOf c ≡ 2 * dividerOf (c - 1) = sym (ap dividerOf s) ∙ next (c - 1) (omega arith) (omega arith) in
           record { pair = omega arith; same = rw (e, d) (omega arith); full = λ l. omega arith }
 
--- a is the bracket of a request, and w its nearer count
-module _ (u : Rule) (fair : Fair u) (f : ℕ) (range : InRange u f) (a : Bracket) (h : Brackets (u .clock) (u .base) f a) (l : a .low < 65_536) where
+-- a is the bracket of a request, and v its nearer count
+module _ (u : Rule) (f tol : ℕ) (a : Bracket) (asked : Asked u f tol a) where
+  fair : Fair u
+  fair = asked .fair
+
+  h : Brackets (u .clock) (f * u .base) a
+  h = asked .bracket
+
   abbrev C : ℕ
   C = u .clock
 
@@ -57,44 +82,53 @@ module _ (u : Rule) (fair : Fair u) (f : ℕ) (range : InRange u f) (a : Bracket
   N = dividerOf c
 
   abbrev s : ℕ
-  s = a .step
+  s = f * k * a .divider
 
-  record Nearest (w : ℕ) : Type 0 where
-    some : 1 ≤ w
-    most : w ≤ 65_536
-    full : 1 < c → 32_768 ≤ w
-    small : s * w ≤ C + s
-    best : (d x e y : ℕ) → Least N w d x → IsPair e y → AsGood C f (k * N * w) (dividerOf d) (period u e y) (dividerOf e)
+  record Best (v : Nearest) : Type 0 where
+    some : 1 ≤ v .count
+    most : v .count ≤ 65_536
+    full : 1 < c → 32_768 ≤ v .count
+    small : s * v .count ≤ C + s
+    missed : v .miss ≡ apart C (s * v .count)
+    best : (d x e y : ℕ) → Least N (v .count) d x → IsPair e y → AsGood C f (k * N * v .count) (dividerOf d) (period u e y) (dividerOf e)
 
-  fit : Fit C k f
-  fit = fitting u fair f range
+  pub step-fits : s < 2 ^ 64
+  step-fits = omega (arith, h .around .wide)
 
   steps : s ≡ f * (k * N)
-  steps = h .step
+  steps = rw (h .divides) (omega arith)
 
-  nearest : Nearest (nearerOf C s (a .low))
+  nearest : Best (nearerOf C s (a .low))
   nearest =
-      by-le Nearest _ _
+      by-le Best _ _
       (λ g.
       record {
-        some = some-count C s (a .low) (fair .lowest .ticks) g;
-        most = omega arith;
+        some = some-count C s (a .low) (fair .ticks) g;
+        most = omega (arith, asked .low);
         full = h .full;
         small = omega (arith, h .around .under);
-        best = λ d x e y q p. fewer-best C k f fit a h (fair .lowest .ticks) d x (rw steps at g) q e y p;
+        missed = omega (arith, h .around .under);
+        best = λ d x e y q p. fewer-best C k f (fair .base) a h (fair .ticks) d x (rw steps at g) q e y p;
       })
       (λ g.
       record {
         some = omega arith;
-        most = omega arith;
+        most = omega (arith, asked .low);
         full = λ t. omega (arith, h .full t);
         small = omega (arith, h .around .under);
-        best = λ d x e y q p. more-best C k f fit a h (fair .lowest .ticks) d x (rw steps at g) q e y p;
+        missed = omega (arith, h .around .past);
+        best = λ d x e y q p. more-best C k f (fair .base) a h (fair .ticks) d x (rw steps at g) q e y p;
       })
 
-  module _ (w : ℕ) (is : w ≡ nearerOf C s (a .low)) where
-    near : Nearest w
+  module _ (v : Nearest) (is : v ≡ nearerOf C s (a .low)) where
+    near : Best v
     near = rw is nearest
+
+    abbrev w : ℕ
+    w = v .count
+
+    abbrev P : ℕ
+    P = k * a .divider * w
 
     pub count-some : 0 < w
     count-some = near .some
@@ -108,66 +142,67 @@ module _ (u : Rule) (fair : Fair u) (f : ℕ) (range : InRange u f) (a : Bracket
     periods : (d x : ℕ) → Least N w d x → k * N * w ≡ period u d x
     periods d x q = let e = ap (λ (z : ℕ). k * z) (q .same) in omega arith
 
-    -- the code's own numbers, with v for what it has as the distance
+    -- the code's own numbers
     pub got-fits : s * w < 2 ^ 64
     got-fits = omega (arith, near .small, h .around)
 
-    module _ (tol v : ℕ) (few : tol ≤ 1_000_000) (e : v ≡ apart C (s * w)) where
-      pub miss-fits : 1_000_000 * v < 2 ^ 64
-      miss-fits = omega (arith, near .small, h .around)
+    pub miss-fits : (g : ℕ) → g ≤ 1_000_000 → g * v .miss < 2 ^ 64
+    miss-fits g t = omega (arith, near .missed, near .small, h .around, mul-le-mul-right (v .miss) t)
 
-      pub allowed-fits : tol * (s * w) < 2 ^ 64
-      allowed-fits = omega (arith, near .small, h .around, mul-le-mul-right (s * w) few)
+    pub allowed-fits : tol * (s * w) < 2 ^ 64
+    allowed-fits = omega (arith, near .small, h .around, mul-le-mul-right (s * w) (asked .few))
 
-      within : 1_000_000 * v ≤ tol * (s * w) → Within C f tol (k * N * w)
-      within g = rw (e, got) at g
+    within : 1_000_000 * v .miss ≤ tol * (s * w) → Within C f tol (k * N * w)
+    within g = rw (near .missed, got) at g
 
-      wins : 1_000_000 * v ≤ tol * (s * w) → (d x : ℕ) → Least N w d x → Wins u f tol d x
-      wins g d x q =
-          record {
-            pair = q .pair;
-            within = rw (periods d x q) at (within g);
-            best = λ e y p. rw (periods d x q) at (near .best d x e y q p);
-          }
+    wins : 1_000_000 * v .miss ≤ tol * (s * w) → (d x : ℕ) → Least N w d x → Wins u f tol d x
+    wins g d x q =
+        record {
+          pair = q .pair;
+          within = rw (periods d x q) at (within g);
+          best = λ e y p. rw (periods d x q) at (near .best d x e y q p);
+        }
 
-      pub answer-pair : (r : Found) → 1_000_000 * v ≤ tol * (s * w) → r ≡ pairOf c w → Answer u f tol r
-      answer-pair r g t =
-          rw t
-          (least c w (h .some) (h .most) (near .some) (near .most) (near .full) (Answer u f tol)
-          (λ d x q. pair range few (wins g d x q)))
+    paired : 1_000_000 * v .miss ≤ tol * (s * w) → (d x : ℕ) → Least N w d x → Answer u f tol (Pair d x P)
+    paired g d x q = rw (h .divides, periods d x q) (pair (asked .range) (asked .few) (wins g d x q))
 
-      pub answer-none : tol * (s * w) < 1_000_000 * v → Answer u f tol (Refused 14)
-      answer-none g = none range few no-pair
-        where
-          too-far : Within C f tol (k * N * w) → ⊥
-          too-far t = omega (arith, rw (e, got) at g)
+    pub answer-pair : (r : Found) → 1_000_000 * v .miss ≤ tol * (s * w) → r ≡ pairOf c w P → Answer u f tol r
+    answer-pair r g t =
+        rw t (least c w (h .some) (h .most) (near .some) (near .most) (near .full) P (Answer u f tol) (paired g))
 
-          no-pair : NoPair u f tol
-          no-pair d y p t =
-              least c w (h .some) (h .most) (near .some) (near .most) (near .full) (λ r. ⊥)
-              (λ b x q. too-far (within-near tol (pair-pos C k f fit a h d y p) (near .best b x d y q p) t))
+    pub answer-none : tol * (s * w) < 1_000_000 * v .miss → Answer u f tol (Refused 14)
+    answer-none g = none (asked .range) (asked .few) no-pair
+      where
+        too-far : Within C f tol (k * N * w) → ⊥
+        too-far t = omega (arith, rw (near .missed, got) at g)
+
+        no-pair : (d y : ℕ) → IsPair d y → Within C f tol (period u d y) → ⊥
+        no-pair d y p t =
+            least c w (h .some) (h .most) (near .some) (near .most) (near .full) P (λ r. ⊥)
+            (λ b x q. too-far (within-near tol (pair-pos C k f (fair .base) a h d y p) (near .best b x d y q p) t))
 
 -- the answer: the nearer count of the finest divider's bracket, if that is within the tolerance
-abbrev answer : ℕ → ℕ → ℕ → ℕ → ℕ → Found
-answer C tol c s m = cond (leb (1_000_000 * apart C (s * m)) (tol * (s * m))) (pairOf c m) (Refused 14)
+abbrev answer : ℕ → ℕ → ℕ → ℕ → ℕ → Nearest → Found
+answer tol k c d s v = cond (leb (1_000_000 * v .miss) (tol * (s * v .count))) (pairOf c (v .count) (k * d * v .count)) (Refused 14)
 
-abbrev answerAt : ℕ → ℕ → Bracket → Found
-answerAt C tol a = answer C tol (a .choice) (a .step) (nearerOf C (a .step) (a .low))
+abbrev answerAt : Rule → ℕ → ℕ → Bracket → Found
+answerAt u f tol a =
+    let s = f * u .base * a .divider in
+    answer tol (u .base) (a .choice) (a .divider) s (nearerOf (u .clock) s (a .low))
 
 abbrev pub found : Rule → ℕ → ℕ → Found
 found u f tol =
     cond (ltb f (u .low)) (Refused 12)
     (cond (ltb (u .high) f) (Refused 12)
     (cond (ltb 1_000_000 tol) (Refused 13)
-    (answerAt (u .clock) tol (shortened 6 (undivided (u .clock) (f * u .base))))))
+    (answerAt u f tol (shortened 6 (undividedOf (u .clock) (f * u .base))))))
 
 module _ (u : Rule) (fair : Fair u) (f tol : ℕ) where
-  answered : InRange u f → tol ≤ 1_000_000 → (a : Bracket) → Brackets (u .clock) (u .base) f a → a .low < 65_536 →
-      Answer u f tol (answerAt (u .clock) tol a)
-  answered range few a h l =
+  answered : (a : Bracket) → Asked u f tol a → Answer u f tol (answerAt u f tol a)
+  answered a h =
       by-le (Answer u f tol) _ _
-      (λ g. answer-pair u fair f range a h l _ refl tol _ few refl _ g refl)
-      (λ g. answer-none u fair f range a h l _ refl tol _ few refl g)
+      (λ g. answer-pair u f tol a h _ refl _ g refl)
+      (λ g. answer-none u f tol a h _ refl g)
 
   -- there is an answer
   pub found-right : Answer u f tol (found u f tol)
@@ -182,8 +217,9 @@ module _ (u : Rule) (fair : Fair u) (f tol : ℕ) where
       (λ many. loose (low, high) (omega arith))
       (λ few.
       let fit = fitting u fair f (low, high) in
-      let g = shortened-brackets (u .clock) (u .base) f fit 6 (undivided (u .clock) (f * u .base)) (first-brackets (u .clock) (u .base) f fit) refl in
-      answered (low, high) few (shortened 6 (undivided (u .clock) (f * u .base))) (g .0) (g .1))))
+      let a = undividedOf (u .clock) (f * u .base) in
+      let g = shortened-brackets (u .clock) (f * u .base) fit 6 a (first-brackets (u .clock) (f * u .base) fit) refl in
+      answered (shortened 6 a) (record { fair = fair; range = (low, high); few = few; bracket = g .0; low = g .1 }))))
 
   one-pair : (c x d y : ℕ) → Wins u f tol c x → Wins u f tol d y → (c ≡ d) × (x ≡ y)
   one-pair c x d y h l = (same-c, same-x)
@@ -215,11 +251,11 @@ module _ (u : Rule) (fair : Fair u) (f tol : ℕ) where
       same-x =
           omega (
             arith,
-            eq-of-mul-eq-mul-left (u .base * dividerOf c) (mul-pos (fair .lowest .base) (some c (h .pair .0) (h .pair .1))) (x + 1) (y + 1)
+            eq-of-mul-eq-mul-left (u .base * dividerOf c) (mul-pos (fair .base) (some c (h .pair .0) (h .pair .1))) (x + 1) (y + 1)
                 (same-p ∙ ap (λ (e : ℕ). u .base * dividerOf e * (y + 1)) (sym same-c)),
           )
 
-  pub same-numbers : {v w : ℕ × ℕ × ℕ} → Outcome u f tol v → Outcome u f tol w → v ≡ w
+  pub same-numbers : {v w : ℕ × ℕ × ℕ × ℕ} → Outcome u f tol v → Outcome u f tol w → v ≡ w
   same-numbers (outside a) (outside b) = refl
   same-numbers (outside a) (loose b t) = absurd (a b)
   same-numbers (outside a) (none b t e) = absurd (a b)
@@ -235,31 +271,26 @@ module _ (u : Rule) (fair : Fair u) (f tol : ℕ) where
   same-numbers (pair a s w) (outside b) = absurd (b a)
   same-numbers (pair a s w) (loose b t) = absurd (omega arith)
   same-numbers (pair a s w) (none b t e) = absurd (e _ _ (w .pair) (w .within))
-  same-numbers (pair a s w) (pair b t v) = let e = one-pair _ _ _ _ w v in cc
+  same-numbers (pair a s w) (pair b t v) = let e = one-pair _ _ _ _ w v in rw (e .0, e .1)
 
   -- a pair's choice is no 0, as a refusal's is
-  some-choice : {v : ℕ × ℕ × ℕ} → Outcome u f tol v → v .0 ≡ 0 → 1 ≤ v .1
+  some-choice : {v : ℕ × ℕ × ℕ × ℕ} → Outcome u f tol v → v .0 ≡ 0 → 1 ≤ v .1
   some-choice (outside a) e = absurd (omega arith)
   some-choice (loose a t) e = absurd (omega arith)
   some-choice (none a t g) e = absurd (omega arith)
   some-choice (pair a t w) e = w .pair .0
 
-  apart-kinds : (c x n : ℕ) → Answer u f tol (Pair c x) → Answer u f tol (Refused n) → ⊥
-  apart-kinds c x n h l = let e : c ≡ 0 = ap (λ (v : ℕ × ℕ × ℕ). v .1) (same-numbers h l) in omega (arith, some-choice h refl)
+  apart-kinds : (c x p n : ℕ) → Answer u f tol (Pair c x p) → Answer u f tol (Refused n) → ⊥
+  apart-kinds c x p n h l = let e : c ≡ 0 = ap (λ (v : ℕ × ℕ × ℕ × ℕ). v .1) (same-numbers h l) in omega (arith, some-choice h refl)
 
   pub same : (r s : Found) → Answer u f tol r → Answer u f tol s → r ≡ s
-  same (Pair c x) (Pair d y) h l = ap (λ (v : ℕ × ℕ × ℕ). Pair (v .1) (v .2)) (same-numbers h l)
-  same (Pair c x) (Refused n) h l = absurd (apart-kinds c x n h l)
-  same (Refused n) (Pair c x) h l = absurd (apart-kinds c x n l h)
-  same (Refused n) (Refused m) h l = ap (λ (v : ℕ × ℕ × ℕ). Refused (v .0)) (same-numbers h l)
+  same (Pair c x p) (Pair d y q) h l = ap (λ (v : ℕ × ℕ × ℕ × ℕ). Pair (v .1) (v .2) (v .3)) (same-numbers h l)
+  same (Pair c x p) (Refused n) h l = absurd (apart-kinds c x p n h l)
+  same (Refused n) (Pair c x p) h l = absurd (apart-kinds c x p n l h)
+  same (Refused n) (Refused m) h l = ap (λ (v : ℕ × ℕ × ℕ × ℕ). Refused (v .0)) (same-numbers h l)
 
-settled : (u : Rule) → Fair u → Settled u
-settled u fair =
-    record {
-      answer = found u;
-      allowed = found-right u fair;
-      same = same u fair;
-    }
+pub settled : (u : Rule) → Fair u → Settled u
+settled u fair f tol = (found u f tol, found-right u fair f tol, λ s h. same u fair f tol s (found u f tol) h (found-right u fair f tol))
 
 pub fair-pwm : Fair pwm
 fair-pwm = omega arith
@@ -267,8 +298,8 @@ fair-pwm = omega arith
 pub fair-spi : Fair spi
 fair-spi = omega arith
 
-pub settled-pwm : Settled pwm
-settled-pwm = settled pwm fair-pwm
+pub fair-hertz-pwm : Fair hertzPwm
+fair-hertz-pwm = omega arith
 
-pub settled-spi : Settled spi
-settled-spi = settled spi fair-spi
+pub fair-hertz-spi : Fair hertzSpi
+fair-hertz-spi = omega arith

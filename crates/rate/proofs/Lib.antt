@@ -4,4 +4,5 @@ pub mod Order
 pub mod Sides
 pub mod Fits
 pub mod Answers
-pub mod Sums
+pub mod Thousands
+pub mod Proved

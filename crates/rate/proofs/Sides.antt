@@ -1,8 +1,8 @@
 -- A bracket has the two counts next to the wanted rate, and every pair lies on the far side of one of them. Assumes nothing.
-use mathlib.Core.Path.{_≡_, ap, _∙_}
+use mathlib.Core.Path.{_≡_, refl, ap, _∙_}
 use mathlib.Core.Bool.{cond}
 use Prim.Native.Nat.{ℕ, zero, suc, _+_, _-_, _*_, _/_, _^_, _≤_, _<_}
-use native.Mathlib.Nat.{le-refl, mul-pos, mul-le-mul, mul-le-mul-left, mul-le-mul-right, mul-lt-mul-of-pos-left, eq-of-mul-eq-mul-left, le-div-iff-mul-le, div-lt-iff-lt-mul}
+use native.Mathlib.Nat.{le-refl, mul-pos, mul-le-mul-left, mul-le-mul-right, mul-lt-mul-of-pos-left, eq-of-mul-eq-mul-left, le-div-iff-mul-le, div-lt-iff-lt-mul}
 use native.Mathlib.Omega.{arith}
 use native.Mathlib.Decide.{decLe}
 use lib.Dec.{ltb}
@@ -10,67 +10,61 @@ use Rattle.laws.proofs.Cases.{by-lt}
 use Rattle.divider.specs.Divider.{dividerOf}
 use Rattle.rate.specs.declared.Bracket.{Bracket}
 use Rattle.rate.specs.Rate.{apart, IsPair, AsGood}
-use Rattle.rate.specs.How.{Fit, Brackets, coarserOf, short, over}
+use Rattle.rate.specs.How.{Fit, Brackets, undividedOf, coarserOf, short, over}
 use Rattle.rate.proofs.Dividers.{some, most, grow, times, twice, next}
 use Rattle.rate.proofs.Order.{trans, longer, shorter}
 
--- the first divider's bracket, and the next, coarser until the count is short enough, at most i times
-abbrev pub undivided : ℕ → ℕ → Bracket
-undivided C s = record { choice = 1; step = s; low = C / s }
-
+-- the next bracket, coarser until the count is short enough, at most i times
 abbrev pub shortened : ℕ → Bracket → Bracket
 shortened zero a = a
 shortened (suc i) a = cond (ltb (a .low) 65_536) a (shortened i (coarserOf a))
 
-module _ (C k f : ℕ) (fit : Fit C k f) where
-  step-some : (c : ℕ) → 1 ≤ c → c ≤ 7 → 0 < f * (k * dividerOf c)
-  step-some c h l = mul-pos (fit .some) (mul-pos (fit .base) (some c h l))
+module _ (C s : ℕ) (fit : Fit C s) where
+  pub first-some : 0 < s
+  first-some = fit .some
 
-  step-wide : (c : ℕ) → 1 ≤ c → c ≤ 7 → f * (k * dividerOf c) ≤ 512_000_000_000
-  step-wide c h l = mul-le-mul (fit .rate) (mul-le-mul {n₂ = 2} {m₂ = 64} (fit .twice) (most c h l))
-
-  pub first-some : 0 < f * k
-  first-some = mul-pos (fit .some) (fit .base)
-
-  pub first-brackets : Brackets C k f (undivided C (f * k))
+  pub first-brackets : Brackets C s (undividedOf C s)
   first-brackets =
       record {
         some = omega arith;
         most = omega arith;
-        step = omega arith;
+        divides = refl;
+        small = omega arith;
         around =
             record {
               clock = fit .clock;
-              wide = omega (arith, step-wide 1 (omega arith) (omega arith));
-              under = omega (arith, le-div-iff-mul-le first-some .0 (le-refl (C / (f * k))));
-              past = omega (arith, div-lt-iff-lt-mul {x = C} {y = C / (f * k) + 1} first-some .0 (omega arith));
+              wide = omega (arith, fit .wide);
+              under = omega (arith, le-div-iff-mul-le first-some .0 (le-refl (C / s)));
+              past = omega (arith, div-lt-iff-lt-mul {x = C} {y = C / s + 1} first-some .0 (omega arith));
             };
         full = λ h. absurd (omega arith);
       }
 
   -- the last divider reaches all
-  more : (a : Bracket) → Brackets C k f a → 65_536 ≤ a .low → a .choice < 7
+  more : (a : Bracket) → Brackets C s a → 65_536 ≤ a .low → a .choice < 7
   more a h l = by (decLe (a .choice) 6)
     where
       by : Dec (a .choice ≤ 6) → a .choice < 7
       by (yes t) = omega arith
       by (no t) =
           let e : a .choice ≡ 7 = omega (arith, h .most) in
-          let g : a .step ≡ f * (k * 64) = h .step ∙ ap (λ (c : ℕ). f * (k * dividerOf c)) e in
-          omega (arith, h .around .under, mul-le-mul-left (a .step) l, fit .reach)
+          let g : a .divider ≡ 64 = h .divides ∙ ap dividerOf e in
+          let j : s * a .divider ≡ s * 64 = ap (λ (d : ℕ). s * d) g in
+          omega (arith, h .around .under, mul-le-mul-left (s * a .divider) l, fit .reach)
 
-  pub coarser-brackets : (a : Bracket) → Brackets C k f a → 65_536 ≤ a .low → Brackets C k f (coarserOf a)
+  pub coarser-brackets : (a : Bracket) → Brackets C s a → 65_536 ≤ a .low → Brackets C s (coarserOf a)
   coarser-brackets a h l =
       record {
         some = omega arith;
         most = omega (arith, more a h l);
-        step = step;
+        divides = divides;
+        small = rw divides (most (a .choice + 1) (omega arith) (omega (arith, more a h l)));
         around =
             record {
               clock = fit .clock;
-              wide = rw step (step-wide (a .choice + 1) (omega arith) (omega (arith, more a h l)));
-              under = omega (arith, h .around .under, mul-le-mul-left (a .step) half);
-              past = omega (arith, h .around .past, mul-le-mul-left (a .step) whole);
+              wide = omega (arith, fit .clock, h .around .under, mul-le-mul-left (s * a .divider) l);
+              under = omega (arith, h .around .under, mul-le-mul-left (s * a .divider) half);
+              past = omega (arith, h .around .past, mul-le-mul-left (s * a .divider) whole);
             };
         full = λ t. omega arith;
       }
@@ -81,14 +75,14 @@ module _ (C k f : ℕ) (fit : Fit C k f) where
       whole : a .low + 1 ≤ 2 * (a .low / 2 + 1)
       whole = omega arith
 
-      step : 2 * a .step ≡ f * (k * dividerOf (a .choice + 1))
-      step = rw (next (a .choice) (h .some) (more a h l)) (omega (arith, h .step))
+      divides : 2 * a .divider ≡ dividerOf (a .choice + 1)
+      divides = rw (next (a .choice) (h .some) (more a h l), h .divides)
 
   -- a count that is short enough is reached in six turns
   abbrev Short : Bracket → Type 0
-  Short b = Brackets C k f b × (b .low < 65_536)
+  Short b = Brackets C s b × (b .low < 65_536)
 
-  pub shortened-brackets : (i : ℕ) (a : Bracket) → Brackets C k f a → a .choice + i ≡ 7 → Short (shortened i a)
+  pub shortened-brackets : (i : ℕ) (a : Bracket) → Brackets C s a → a .choice + i ≡ 7 → Short (shortened i a)
   shortened-brackets zero a h e = (h, at-last (decLe 65_536 (a .low)))
     where
       at-last : Dec (65_536 ≤ a .low) → a .low < 65_536
@@ -148,7 +142,7 @@ least-wins {N} {w} {c} {x} h d y p e = by (decLe c d)
         mul-lt-mul-of-pos-left (omega (arith, h .full (omega (arith, p .0)), p .2)) (some d (p .0) (p .1)) in
         absurd (omega (arith, h .same))
 
-module _ (C k f : ℕ) (fit : Fit C k f) (a : Bracket) (h : Brackets C k f a) where
+module _ (C k f : ℕ) (base : 0 < k) (a : Bracket) (h : Brackets C (f * k) a) where
   abbrev N : ℕ
   N = dividerOf (a .choice)
 
@@ -162,16 +156,16 @@ module _ (C k f : ℕ) (fit : Fit C k f) (a : Bracket) (h : Brackets C k f a) wh
   period d y = k * dividerOf d * (y + 1)
 
   ticks : 0 < n
-  ticks = mul-pos (fit .base) (some (a .choice) (h .some) (h .most))
+  ticks = mul-pos (base) (some (a .choice) (h .some) (h .most))
 
   pub pair-pos : (d y : ℕ) → IsPair d y → 0 < period d y
-  pair-pos d y p = mul-pos (mul-pos (fit .base) (some d (p .0) (p .1))) (omega arith)
+  pair-pos d y p = mul-pos (mul-pos (base) (some d (p .0) (p .1))) (omega arith)
 
   under : f * n * m ≤ C
-  under = omega (arith, rw (h .step) at h .around .under)
+  under = omega (arith, rw (h .divides) at h .around .under)
 
   past : C < f * n * (m + 1)
-  past = omega (arith, rw (h .step) at h .around .past)
+  past = omega (arith, rw (h .divides) at h .around .past)
 
   -- each pair has at most the bracket's counts, or one more at least
   sides : (R : Type 0) (d y : ℕ) → IsPair d y → (period d y ≤ n * m → R) → (n * (m + 1) ≤ period d y → R) → R
@@ -193,7 +187,7 @@ module _ (C k f : ℕ) (fit : Fit C k f) (a : Bracket) (h : Brackets C k f a) wh
           few (omega (arith, mul-le-mul-left (k * dividerOf d) l))
 
   finer : (w c x : ℕ) → Least N w c x → (d y : ℕ) → IsPair d y → n * w ≡ period d y → dividerOf c ≤ dividerOf d
-  finer w c x l d y p e = least-wins l d y p (eq-of-mul-eq-mul-left k (fit .base) (N * w) (dividerOf d * (y + 1)) (omega arith))
+  finer w c x l d y p e = least-wins l d y p (eq-of-mul-eq-mul-left k (base) (N * w) (dividerOf d * (y + 1)) (omega arith))
 
   -- so the nearer of the two counts is as good as each pair
   module _ (fast : 0 < C) (c x : ℕ) where

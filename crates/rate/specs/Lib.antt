@@ -1,5 +1,4 @@
 -- The definitions that the contracts of `rate` cite, its theorems, and how the code computes.
 pub mod Rate
-pub mod Settled
-pub mod Sums
+pub mod Facts
 pub mod How

@@ -1,5 +1,6 @@
--- Paper 01, "Rates" and the numbers of refusal 12 to 15, in the paper's order. "PWM and SPI are asked by separate calls": a rule u has the
--- numbers of one of them. A pair is a divider choice c and X. Assumes nothing.
+-- Paper 01, "Rates" and the numbers of refusal 12 to 15, in the paper's order, with paper 02's f): a wanted rate is in whole millihertz, and
+-- its answer gives the period too. "PWM and SPI are asked by separate calls": a rule u has the numbers of one of them. A pair is a divider
+-- choice c and X. Assumes nothing.
 use mathlib.Core.Path.{_≡_}
 use mathlib.Core.Bool.{cond, _||_}
 use Prim.Native.Nat.{ℕ, _+_, _-_, _*_, _≤_, _<_}
@@ -11,13 +12,13 @@ use Rattle.rate.specs.declared.Rated.the-variants.{Ratio, Unset}
 use Rattle.rate.specs.declared.Found.{Found}
 use Rattle.rate.specs.declared.Found.the-variants.{Pair, Refused}
 
--- "PWM: 40 to 40,000 Hz, period P = N(X+1) ticks", of a clock with 40,000,000 ticks a second
+-- "PWM: .. period P = N(X+1) ticks", of a clock with 40,000,000 ticks a second; in 1,000 parts of a hertz, "40,000 to 40,000,000 for PWM"
 abbrev pub pwm : Rule
-pwm = record { clock = 40_000_000; low = 40; high = 40_000; base = 1 }
+pwm = record { hertz = 40_000_000; clock = 40_000_000_000; low = 40_000; high = 40_000_000; base = 1 }
 
--- "SPI: 40 to 4,000,000 Hz, P = 2N(X+1)"
+-- "SPI: .. P = 2N(X+1)"; "40,000 to 4,000,000,000 for SPI"
 abbrev pub spi : Rule
-spi = record { clock = 40_000_000; low = 40; high = 4_000_000; base = 2 }
+spi = record { hertz = 40_000_000; clock = 40_000_000_000; low = 40_000; high = 4_000_000_000; base = 2 }
 
 abbrev pub InRange : Rule → ℕ → Type 0
 InRange u f = (u .low ≤ f) × (f ≤ u .high)
@@ -32,7 +33,7 @@ IsPair c x = (1 ≤ c) × (c ≤ 7) × (x ≤ 65_535)
 
 -- "From registers the rate is the fraction 40,000,000/P", "with no range check but 15": a "divider choice 0 or above 7, or X above 65,535"
 abbrev pub rateOf : Rule → ℕ → ℕ → Rated
-rateOf u c x = cond (ltb c 1 || (ltb 7 c || ltb 65_535 x)) (Unset 15) (Ratio (u .clock) (period u c x))
+rateOf u c x = cond (ltb c 1 || (ltb 7 c || ltb 65_535 x)) (Unset 15) (Ratio (u .hertz) (period u c x))
 
 -- its numbers: the refusal, 0 for none, and the fraction's two, 0 beside a refusal
 abbrev pub ratedNumbers : Rated → ℕ × ℕ × ℕ
@@ -43,12 +44,12 @@ ratedNumbers (Unset n) = (n, 0, 0)
 abbrev pub apart : ℕ → ℕ → ℕ
 apart a b = (a - b) + (b - a)
 
--- "the error is |40,000,000/P - f|", with C for the clock's 40,000,000. To compare P's error with Q's, both are taken PQ times:
--- |C/P - f| PQ = |C - fP| Q
+-- "the error is |40,000,000/P - f|", "the same with f/1,000 for f". To compare P's error with Q's, both are taken 1,000 PQ times. With C for
+-- the clock's rate in millihertz, |40,000,000/P - f/1,000| 1,000 PQ = |C - fP| Q
 abbrev pub error : ℕ → ℕ → ℕ → ℕ → ℕ
 error C f P Q = apart C (f * P) * Q
 
--- "within tolerance means 1,000,000 times |40,000,000 - fP| is at most tol times fP"
+-- "within tolerance means 1,000,000 times |40,000,000 - fP| is at most tol times fP", with f/1,000 for f and both sides 1,000 times
 abbrev pub Within : ℕ → ℕ → ℕ → ℕ → Type 0
 Within C f tol P = 1_000_000 * apart C (f * P) ≤ tol * (f * P)
 
@@ -64,26 +65,22 @@ pub record Wins (u : Rule) (f tol c x : ℕ) : Type 0 where
   pub within : Within (u .clock) f tol (period u c x)
   pub best : (d y : ℕ) → IsPair d y → AsGood (u .clock) f (period u c x) (dividerOf c) (period u d y) (dividerOf d)
 
--- no pair within the tolerance, of all that there are
-abbrev pub NoPair : Rule → ℕ → ℕ → Type 0
-NoPair u f tol = (d y : ℕ) → IsPair d y → Within (u .clock) f tol (period u d y) → ⊥
-
--- What may be answered to a request, in numbers: the refusal, 0 for none, the divider choice and X. "Checks go in this order; .. for a rate
--- 12, 13, 14", "Rate refusals return the number alone".
-pub data Outcome (u : Rule) (f tol : ℕ) : ℕ × ℕ × ℕ → Type 0 where
+-- What may be answered to a request, in numbers: the refusal, 0 for none, the divider choice, X and the period. "Checks go in this order; ..
+-- for a rate 12, 13, 14", "Rate refusals return the number alone".
+pub data Outcome (u : Rule) (f tol : ℕ) : ℕ × ℕ × ℕ × ℕ → Type 0 where
   -- 12: "rate out of range"
-  outside : (InRange u f → ⊥) → Outcome u f tol (12, 0, 0)
+  outside : (InRange u f → ⊥) → Outcome u f tol (12, 0, 0, 0)
   -- 13: "tolerance above 1,000,000"
-  loose : InRange u f → 1_000_000 < tol → Outcome u f tol (13, 0, 0)
-  -- 14: "no pair within tolerance"
-  none : InRange u f → tol ≤ 1_000_000 → NoPair u f tol → Outcome u f tol (14, 0, 0)
-  -- "The pair is answered as divider choice and X"
-  pair : {c x : ℕ} → InRange u f → tol ≤ 1_000_000 → Wins u f tol c x → Outcome u f tol (0, c, x)
+  loose : InRange u f → 1_000_000 < tol → Outcome u f tol (13, 0, 0, 0)
+  -- 14: "no pair within tolerance", of all that there are
+  none : InRange u f → tol ≤ 1_000_000 → ((d y : ℕ) → IsPair d y → Within (u .clock) f tol (period u d y) → ⊥) → Outcome u f tol (14, 0, 0, 0)
+  -- "The pair is answered as divider choice and X", "answers also give the period P"
+  pair : {c x : ℕ} → InRange u f → tol ≤ 1_000_000 → Wins u f tol c x → Outcome u f tol (0, c, x, period u c x)
 
 -- the numbers of an answer
-abbrev pub foundNumbers : Found → ℕ × ℕ × ℕ
-foundNumbers (Pair c x) = (0, c, x)
-foundNumbers (Refused n) = (n, 0, 0)
+abbrev pub foundNumbers : Found → ℕ × ℕ × ℕ × ℕ
+foundNumbers (Pair c x p) = (0, c, x, p)
+foundNumbers (Refused n) = (n, 0, 0, 0)
 
 abbrev pub Answer : Rule → ℕ → ℕ → Found → Type 0
 Answer u f tol r = Outcome u f tol (foundNumbers r)

@@ -1,3 +1,4 @@
 -- Laws that belong to no one function.
 pub mod RateWords
 pub mod ReplayWord
+pub mod Proved

@@ -2,3 +2,4 @@
 pub mod Refusal
 pub mod RateWords
 pub mod ReplayWord
+pub mod How

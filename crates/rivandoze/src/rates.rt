@@ -2,23 +2,24 @@
 ghost use mathlib.Core.Path.{_≡_};
 ghost use Prim.Native.Nat.{_<_, _^_};
 ghost use Rattle.rate.specs.Rate.{pwm, spi, foundNumbers, ratedNumbers};
-ghost use Rattle.rivandoze.specs.RateWords.{findWord, rateWord, FindWord, RateWord};
+ghost use Rattle.rivandoze.specs.RateWords.{FindWord, RateWord};
+ghost use Rattle.rivandoze.specs.How.{findWord, rateWord};
 use rate::Found;
 use rate::Rated;
 
-fn pair_word(choice: u64, x: u64) -> u64
-    requires { ⌜ (choice < 256) × (x < 65_536) ⌝ }
-    ensures { λ r. ⌜ r ≡ findWord (0, choice, x) ⌝ }
+fn pair_word(choice: u64, x: u64, period: u64) -> u64
+    requires { ⌜ (choice < 2 ^ 8) × (x < 2 ^ 16) × (period < 2 ^ 32) ⌝ }
+    ensures { λ r. ⌜ r ≡ findWord (0, choice, x, period) ⌝ }
 {
-    256 * choice + 65_536 * x
+    256 * choice + 65_536 * x + 4_294_967_296 * period
 }
 
 fn find_word(found: Found) -> u64
-    requires { ⌜ (foundNumbers found .1 < 256) × (foundNumbers found .2 < 65_536) ⌝ }
+    requires { ⌜ (foundNumbers found .1 < 2 ^ 8) × (foundNumbers found .2 < 2 ^ 16) × (foundNumbers found .3 < 2 ^ 32) ⌝ }
     ensures { λ r. ⌜ r ≡ findWord (foundNumbers found) ⌝ }
 {
     match found {
-        Found::Pair { choice, x } => pair_word(choice, x),
+        Found::Pair { choice, x, period } => pair_word(choice, x, period),
         Found::Refused(n) => n as u64,
     }
 }

@@ -48,7 +48,7 @@ ruleOf true = spi
 -- ---- the answers; what is no number is said to be none, as RATE, TOL, CHOICE or X
 
 abbrev pub foundText : Found → List ℕ
-foundText (FoundPair c x) = pairText c x
+foundText (FoundPair c x p) = pairText c x p
 foundText (Refused n) = refusedText n
 
 abbrev pub ratedText : Rated → List ℕ

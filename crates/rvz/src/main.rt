@@ -55,7 +55,7 @@ fn say_found(text: &mut [u8], found: Found) -> usize
     ensures { λ r. ⌜ Put (now (text .entry)) 0 (foundText found) (now (text .exit)) r ⌝ }
 {
     match found {
-        Found::Pair { choice, x } => text::pair_text(text, choice, x),
+        Found::Pair { choice, x, period } => text::pair_text(text, choice, x, period),
         Found::Refused(n) => text::refused_text(text, n as u64),
     }
 }
@@ -106,11 +106,11 @@ fn usage(text: &mut [u8]) -> usize
         text,
         0,
         b"usage: rvz                      replays the log on standard input
-       rvz pwm RATE TOL         the pair for a PWM rate: 'choice C x X' or 'refused R'
+       rvz pwm RATE TOL         the pair for a PWM rate: 'choice C x X period P' or 'refused R'
        rvz spi RATE TOL         the pair for an SPI rate
        rvz pwm-rate CHOICE X    the rate of a PWM pair: '40000000 P', a fraction, or 'refused R'
        rvz spi-rate CHOICE X    the rate of an SPI pair
-RATE is in hertz, TOL in millionths of it
+RATE is in millihertz, thousandths of a hertz: 40125 is 40.125 Hz. TOL is in millionths of RATE
 ",
     )
 }

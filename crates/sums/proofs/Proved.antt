@@ -1,23 +1,63 @@
--- The sums of specs/Paper.antt: the rates' by the law of the finder at these numbers, the others computed.
+-- The sums of specs/Paper.antt: the rates' by the law of the finder at these numbers, in millihertz by the theorem that they are the same
+-- there, the others computed.
 -- Assumes nothing.
 use mathlib.Core.Path.{refl}
-use Rattle.rate.specs.Rate.{pwm, spi}
-use Rattle.rate.proofs.Answers.{fair-pwm, fair-spi, found-right}
+use Prim.Native.Nat.{ℕ, _*_}
+use Rattle.rate.specs.declared.Found.the-variants.{Pair, Refused}
+use Rattle.rate.specs.Rate.{pwm, spi, period}
+use Rattle.rate.specs.Facts.{hertzPwm, hertzSpi, Gives}
+use Rattle.rate.proofs.Answers.{fair-hertz-pwm, fair-hertz-spi, found-right}
+use Rattle.rate.proofs.Proved.{thousandfold-pwm, thousandfold-spi}
 use Rattle.encoder.specs.Encoder.{statOf}
 use Rattle.pwm.specs.Pwm.{ticked, waited}
-use Rattle.sums.specs.Paper.{PaperSums}
+use Rattle.sums.specs.Paper.{RateSums, PaperSums}
+
+in-hertz : RateSums 1 hertzPwm hertzSpi
+in-hertz = record {
+  pwm-1000 = record { choice = 1; divides = refl; answered = found-right hertzPwm fair-hertz-pwm 1_000 0 };
+  pwm-40 = record { choice = 5; divides = refl; answered = found-right hertzPwm fair-hertz-pwm 40 0 };
+  pwm-610-3 = found-right hertzPwm fair-hertz-pwm 610 3;
+  pwm-610-4 = record { choice = 2; divides = refl; answered = found-right hertzPwm fair-hertz-pwm 610 4 };
+  spi-4000000 = record { choice = 1; divides = refl; answered = found-right hertzSpi fair-hertz-spi 4_000_000 0 };
+  spi-40 = record { choice = 4; divides = refl; answered = found-right hertzSpi fair-hertz-spi 40 0 };
+  spi-3650000-86757 = found-right hertzSpi fair-hertz-spi 3_650_000 86_757;
+  spi-3650000-86758 = record { choice = 1; divides = refl; answered = found-right hertzSpi fair-hertz-spi 3_650_000 86_758 };
+}
+
+-- the same in millihertz, since what a thousandfold rate is answered is the same
+milli-pwm : {f tol N X : ℕ} → Gives hertzPwm f tol N X → Gives pwm (1_000 * f) tol N X
+milli-pwm {f} {tol} {N} {X} g =
+    record {
+      choice = g .choice;
+      divides = g .divides;
+      answered = thousandfold-pwm f tol (Pair (g .choice) X (period pwm (g .choice) X)) .0 (g .answered);
+    }
+
+milli-spi : {f tol N X : ℕ} → Gives hertzSpi f tol N X → Gives spi (1_000 * f) tol N X
+milli-spi {f} {tol} {N} {X} g =
+    record {
+      choice = g .choice;
+      divides = g .divides;
+      answered = thousandfold-spi f tol (Pair (g .choice) X (period spi (g .choice) X)) .0 (g .answered);
+    }
+
+in-millihertz : RateSums 1_000 pwm spi
+in-millihertz = record {
+  pwm-1000 = milli-pwm (in-hertz .pwm-1000);
+  pwm-40 = milli-pwm (in-hertz .pwm-40);
+  pwm-610-3 = thousandfold-pwm 610 3 (Refused 14) .0 (in-hertz .pwm-610-3);
+  pwm-610-4 = milli-pwm (in-hertz .pwm-610-4);
+  spi-4000000 = milli-spi (in-hertz .spi-4000000);
+  spi-40 = milli-spi (in-hertz .spi-40);
+  spi-3650000-86757 = thousandfold-spi 3_650_000 86_757 (Refused 14) .0 (in-hertz .spi-3650000-86757);
+  spi-3650000-86758 = milli-spi (in-hertz .spi-3650000-86758);
+}
 
 pub paper-sums : PaperSums
 unfolding statOf ticked waited
 paper-sums = record {
-  pwm-1000 = record { choice = 1; divides = refl; answered = found-right pwm fair-pwm 1_000 0 };
-  pwm-40 = record { choice = 5; divides = refl; answered = found-right pwm fair-pwm 40 0 };
-  pwm-610-3 = found-right pwm fair-pwm 610 3;
-  pwm-610-4 = record { choice = 2; divides = refl; answered = found-right pwm fair-pwm 610 4 };
-  spi-4000000 = record { choice = 1; divides = refl; answered = found-right spi fair-spi 4_000_000 0 };
-  spi-40 = record { choice = 4; divides = refl; answered = found-right spi fair-spi 40 0 };
-  spi-3650000-86757 = found-right spi fair-spi 3_650_000 86_757;
-  spi-3650000-86758 = record { choice = 1; divides = refl; answered = found-right spi fair-spi 3_650_000 86_758 };
+  in-hertz = in-hertz;
+  in-millihertz = in-millihertz;
   pins-forward = refl;
   pins-backward = refl;
   pins-double = (refl, refl);

@@ -5,7 +5,7 @@ use lib.ListN.{length, drop}
 use Rattle.decimal.specs.Digits.{digitsOf}
 use Rattle.wire.specs.Bytes.{leOf}
 
--- the fixed words: "applied ", "refused ", "choice ", " x ", " " and " is no decimal number from 0 to "
+-- the fixed words: "applied ", "refused ", "choice ", " x ", " period ", " " and " is no decimal number from 0 to "
 abbrev pub appliedWord : List ℕ
 appliedWord = 97 ∷ 112 ∷ 112 ∷ 108 ∷ 105 ∷ 101 ∷ 100 ∷ 32 ∷ []
 
@@ -17,6 +17,9 @@ choiceWord = 99 ∷ 104 ∷ 111 ∷ 105 ∷ 99 ∷ 101 ∷ 32 ∷ []
 
 abbrev pub xWord : List ℕ
 xWord = 32 ∷ 120 ∷ 32 ∷ []
+
+abbrev pub periodWord : List ℕ
+periodWord = 32 ∷ 112 ∷ 101 ∷ 114 ∷ 105 ∷ 111 ∷ 100 ∷ 32 ∷ []
 
 abbrev pub space : List ℕ
 space = 32 ∷ []
@@ -47,10 +50,10 @@ numbersIn (suc n) s = leOf 8 s 0 ∷ numbersIn n (drop 8 s)
 abbrev pub readingsIn : List ℕ → List ℕ
 readingsIn s = numbersIn (length s / 8) s
 
--- ---- the rates: `choice C x X`, `40000000 P`, `refused R`, and what is said to a word that is no number
+-- ---- the rates: `choice C x X period P`, `40000000 P`, `refused R`, and what is said to a word that is no number
 
-abbrev pub pairText : ℕ → ℕ → List ℕ
-pairText c x = line (choiceWord ++ digitsOf c ++ xWord ++ digitsOf x)
+abbrev pub pairText : ℕ → ℕ → ℕ → List ℕ
+pairText c x p = choiceWord ++ digitsOf c ++ line (xWord ++ digitsOf x ++ periodWord ++ digitsOf p)
 
 abbrev pub rateText : ℕ → ℕ → List ℕ
 rateText clock period = line (digitsOf clock ++ space ++ digitsOf period)

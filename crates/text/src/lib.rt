@@ -73,10 +73,11 @@ pub fn replay_text(out: &mut [u8], readings: &[u8], applied: u64, refused: u64) 
 }
 
 // What the rate commands print.
-pub fn pair_text(out: &mut [u8], choice: u64, x: u64) -> usize
-    ensures { λ r. ⌜ Put (now (out .entry)) 0 (pairText choice x) (now (out .exit)) r ⌝ }
+pub fn pair_text(out: &mut [u8], choice: u64, x: u64, period: u64) -> usize
+    ensures { λ r. ⌜ Put (now (out .entry)) 0 (pairText choice x period) (now (out .exit)) r ⌝ }
 {
-    put_pair(out, 0, b"choice ", choice, b" x ", x)
+    let end = put_count(out, 0, b"choice ", choice);
+    put_pair(out, end, b" x ", x, b" period ", period)
 }
 
 pub fn rate_text(out: &mut [u8], clock: u64, period: u64) -> usize

@@ -1,6 +1,6 @@
 -- `rate::rate_of` meets its contract. Assumes nothing.
 use mathlib.Core.Path.{_≡_}
-use Prim.Native.Nat.{ℕ, _+_, _*_, _^_, _≤_, _<_}
+use Prim.Native.Nat.{ℕ, _+_, _*_, _≤_}
 use native.Mathlib.Omega.{arith}
 use borrow.Author.Needs.{needs}
 use borrow.Author.Tests.{le-ltb}
@@ -14,7 +14,7 @@ use Rattle.rate.proofs.rate_of.Statement.{statement}
 use Rattle.rate.proofs.rate_of.Tie as tie
 
 ratio : (u : Rule) (c x d : ℕ) → 1 ≤ c → c ≤ 7 → x ≤ 65_535 → d ≡ dividerOf c →
-    Ratio (u .clock) (u .base * d * (x + 1)) ≡ rateOf u c x
+    Ratio (u .hertz) (u .base * d * (x + 1)) ≡ rateOf u c x
 ratio u c x d h l s e = rw (e, le-ltb c 1 h, le-ltb 7 c l, le-ltb 65_535 x s)
 
 pub rate-of-spec : {M : Type 1} → statement M
@@ -27,5 +27,5 @@ rate-of-spec =
     (λ c κs. search needs)
     (λ c. record { fits = search ticks-fit })
     (λ c. search needs)
-    (λ c. let s : c .before .before .before .before .before .args .x < 2 ^ 32 = omega arith in record { fits = search period-fits })
+    (λ c. let s : c .before .before .before .before .before .args .x + 1 ≤ 65_536 = omega arith in record { fits = search period-fits })
     (λ c. search ratio))

@@ -1,6 +1,6 @@
 -- `rivandoze::rates::find_word` meets its contract. Assumes nothing.
 use borrow.Author.Needs.{needs}
-use Rattle.rivandoze.proofs.RateWords.{choice-part, x-part, pair-part, refused-part}
+use Rattle.rivandoze.proofs.RateWords.{choice-part, x-part, found-period-part, pair-part, refused-part}
 use Rattle.rivandoze.proofs.rates.find_word.Statement.{statement}
 use Rattle.rivandoze.proofs.rates.find_word.Tie as tie
 
@@ -9,7 +9,7 @@ find-word-spec =
     tie.close
     (tie.spec
     (λ c. search needs)
-    (λ c κs. (search choice-part, search x-part))
+    (λ c κs. (search choice-part, search x-part, search found-period-part))
     (λ c. search needs)
     (λ c. search needs)
     (λ c. search pair-part)

@@ -4,4 +4,12 @@ use Rattle.rivandoze.proofs.rates.pair_word.Statement.{statement}
 use Rattle.rivandoze.proofs.rates.pair_word.Tie as tie
 
 pub pair-word-spec : {M : Type 1} → statement M
-pair-word-spec = tie.close (tie.spec (λ c. search needs) (λ c. search needs) (λ c. search needs) (λ c. search needs))
+pair-word-spec =
+    tie.close
+    (tie.spec
+    (λ c. search needs)
+    (λ c. search needs)
+    (λ c. search needs)
+    (λ c. search needs)
+    (λ c. search needs)
+    (λ c. search needs))

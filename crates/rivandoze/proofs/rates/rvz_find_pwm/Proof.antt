@@ -1,6 +1,6 @@
 -- `rivandoze::rates::rvz_find_pwm` meets its contract. Assumes nothing.
 use borrow.Author.Needs.{needs}
-use Rattle.rivandoze.proofs.RateWords.{choice-fits, x-fits, found-word}
+use Rattle.rivandoze.proofs.RateWords.{narrow-pwm, parts-fit, found-word}
 use Rattle.rivandoze.proofs.rates.rvz_find_pwm.Statement.{statement}
 use Rattle.rivandoze.proofs.rates.rvz_find_pwm.Tie as tie
 
@@ -9,5 +9,5 @@ rvz-find-pwm-spec =
     tie.close
     (tie.spec
     (λ c κs. search needs)
-    (λ c κs. (search choice-fits, search x-fits))
-    (λ c. search found-word))
+    (λ c κs. (search parts-fit, search parts-fit, search parts-fit))
+    (λ c. search (found-word, narrow-pwm)))

@@ -1,0 +1,11 @@
+-- The number of each answer about rates is the only one. Assumes nothing.
+use Rattle.rate.specs.Rate.{pwm, spi}
+use Rattle.rate.proofs.Answers.{fair-pwm, fair-spi}
+use Rattle.rivandoze.specs.RateWords.{WordsSettled}
+use Rattle.rivandoze.proofs.RateWords.{settled}
+
+pub words-pwm : WordsSettled pwm
+words-pwm = settled pwm fair-pwm
+
+pub words-spi : WordsSettled spi
+words-spi = settled spi fair-spi
