@@ -12,7 +12,8 @@ use Rattle.rate.specs.declared.Rated.the-variants.{Ratio, Unset}
 use Rattle.rate.specs.declared.Found.{Found}
 use Rattle.rate.specs.declared.Found.the-variants.{Pair, Refused}
 
--- "PWM: .. period P = N(X+1) ticks", of a clock with 40,000,000 ticks a second; in 1,000 parts of a hertz, "40,000 to 40,000,000 for PWM"
+-- "PWM: .. period P = N(X+1) ticks", of a clock with 40,000,000 ticks a second, 40,000,000,000 millihertz; "whole millihertz, 40,000 to
+-- 40,000,000 for PWM"
 abbrev pub pwm : Rule
 pwm = record { hertz = 40_000_000; clock = 40_000_000_000; low = 40_000; high = 40_000_000; base = 1 }
 

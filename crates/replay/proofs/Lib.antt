@@ -2,5 +2,5 @@ mod Ways
 mod Reached
 mod Whole
 pub mod Numbers
-mod Notes
+pub mod Notes
 pub mod Proved

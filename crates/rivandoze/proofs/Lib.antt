@@ -1,4 +1,5 @@
 -- Laws that belong to no one function.
 pub mod RateWords
 pub mod ReplayWord
+pub mod JudgeWord
 pub mod Proved

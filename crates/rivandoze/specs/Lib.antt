@@ -2,4 +2,5 @@
 pub mod Refusal
 pub mod RateWords
 pub mod ReplayWord
+pub mod JudgeWord
 pub mod How

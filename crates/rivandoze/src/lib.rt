@@ -1,3 +1,4 @@
 // What C calls, on numbers and byte slices: a file for each group of calls. `include/rivandoze.h` declares them.
+mod judges;
 mod rates;
 mod replays;

@@ -1,11 +1,11 @@
 -- What the program's functions lean on: words compared, an answer's cases, and the readings in the replay's output. Assumes nothing.
 use mathlib.Core.Path.{_≡_, refl, sym, ap, _∙_, subst}
 use mathlib.Core.Bool.{Bool, true, false, cond, true≢false, false≢true}
-use mathlib.Core.List.{List, [], _∷_, _++_}
-use Prim.Native.Nat.{ℕ, zero, suc, _+_, _*_, _/_, _^_, _≤_, _<_}
+use mathlib.Core.List.{List, [], _∷_}
+use Prim.Native.Nat.{ℕ, _*_, _^_, _≤_, _<_}
 use native.Mathlib.Omega.{arith}
 use lib.Dec.{eqb}
-use lib.ListN.{length, take, drop, length-append}
+use lib.ListN.{length, take, drop}
 use lib.Seq.{length-take-le, take-at}
 use borrow.Author.Tests.{eqb-true, eq-eqb}
 use Rattle.laws.proofs.Truth.{both-true}
@@ -20,14 +20,17 @@ use Rattle.fold.specs.declared.Stop.{Stop}
 use Rattle.fold.specs.Output.{numberOf, bytesOf, over, stopOf, outputOf}
 use Rattle.fold.proofs.Written.{length-bytes}
 use Rattle.replay.specs.Replay.{replayOf}
+use Rattle.judge.proofs.Numbers.{in-bytes}
+use Rattle.judge.proofs.Whole.{few}
 use Rattle.rate.specs.declared.Rule.{Rule}
 use Rattle.rate.specs.declared.Found.{Found}
 use Rattle.rate.specs.declared.Rated.{Rated}
 use Rattle.rate.specs.Rate.{rateOf, Answer}
 use Rattle.text.specs.Text.{textOf, readingsIn}
-use Rattle.text.proofs.Room.{Bytes, text-below}
+use Rattle.text.proofs.Room.{text-below}
 use Rattle.rvz.specs.declared.Question.{Question}
 use Rattle.rvz.specs.declared.Question.the-variants.{Pair, Rate, Other}
+use Rattle.rvz.specs.Verdicts.{verdictText, VerdictSaid}
 use Rattle.rvz.specs.Said.{saidOf, same, ruleOf, foundText, ratedText, rateSaid, PairSaid, AnswerSaid}
 
 -- ---- two words are the same
@@ -115,25 +118,13 @@ pair-counts u NoNumber b out out′ n x = put-counts out out′ _ n x
 pair-counts u (Number f) NoNumber out out′ n x = put-counts out out′ _ n x
 pair-counts u (Number f) (Number tol) out out′ n x = put-counts out out′ _ n (x .2)
 
+pub verdict-counts : (log ts out out′ : List ℕ) (n : ℕ) → VerdictSaid log ts out out′ n → Counts n out′
+verdict-counts log ts out out′ n x = put-counts out out′ (verdictText (x .0)) n (x .2)
+
 -- ---- the readings in the replay's output
 
 pub long-bytes : (vs : List ℕ) → length (bytesOf (leBytes 8) vs) ≡ 8 * length vs
 long-bytes vs = length-bytes (leBytes 8) (λ v. refl) vs
-
-small-append : (s t : List ℕ) → Bytes s → Bytes t → Bytes (s ++ t)
-small-append [] t p q i = q i
-small-append (a ∷ s) t p q zero = p zero
-small-append (a ∷ s) t p q (suc i) = small-append s t (λ j. p (suc j)) q i
-
-small-le : (n v : ℕ) → Bytes (leBytes n v)
-small-le zero v i = omega arith
-small-le (suc n) v zero = omega arith
-small-le (suc n) v (suc i) = small-le n (v / 256) i
-
-small-bytes : (vs : List ℕ) → Bytes (bytesOf (leBytes 8) vs)
-unfolding bytesOf
-small-bytes [] i = omega arith
-small-bytes (v ∷ vs) i = small-append (leBytes 8 v) (bytesOf (leBytes 8) vs) (small-le 8 v) (small-bytes vs) i
 
 module _ (log : List ℕ) (room : ℕ) (stop : Stop) (out out′ : List ℕ) (s : stop ≡ stopOf (replayOf log room))
     (o : out′ ≡ outputOf (leBytes 8) (replayOf log room) out) where
@@ -143,10 +134,6 @@ module _ (log : List ℕ) (room : ℕ) (stop : Stop) (out out′ : List ℕ) (s 
   long : 8 * stop .readings ≡ length bytes
   unfolding stopOf bytes
   long = omega (arith, ap (λ (t : Stop). t .readings) s, long-bytes (replayOf log room .readings))
-
-  pub few : 8 * stop .readings ≤ length out′
-  unfolding outputOf over bytes
-  few = omega (arith, long, ap length o, length-append bytes (drop (length bytes) out))
 
   theirs : take (8 * stop .readings) out′ ≡ bytes
   unfolding outputOf over bytes
@@ -162,4 +149,4 @@ module _ (log : List ℕ) (room : ℕ) (stop : Stop) (out out′ : List ℕ) (s 
     unfolding saidOf stopOf bytes
     room-enough h p q =
         let t = replayOf log room in
-        rw (← e) (omega (arith, few, long, text-below bytes (t .applied) (numberOf (t .course)) (small-bytes (t .readings)) (rw s at p) (rw s at q)))
+        rw (← e) (omega (arith, few log room stop out out′ s o, long, text-below bytes (t .applied) (numberOf (t .course)) (in-bytes (t .readings)) (rw s at p) (rw s at q)))

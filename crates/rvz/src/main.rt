@@ -1,8 +1,9 @@
-// With no argument it replays the log on standard input; with arguments it answers one question about rates. It has no exit status to
-// give, so all it has to say goes to standard output: built in one buffer, every byte promised, and written at once. What is read and
-// written no contract can say: `number`, `replay_input`, `answer` and `main`, which talk to the system, promise no bytes, nor does `usage`,
-// a constant.
+// With no argument it replays the log on standard input; with arguments it judges a transcript by that log, or answers one question about
+// rates. It has no exit status to give, so all it has to say goes to standard output: built in one buffer, every byte promised, and
+// written at once. What is read and written no contract can say: `number`, `replay_input`, `judge_input`, `answer` and `main`, which talk to
+// the system, promise no bytes, nor does `usage`, a constant.
 use decimal::Decimal;
+use judge::Verdict;
 use libc::STDIN_FILENO;
 use libc::STDOUT_FILENO;
 use rate::Found;
@@ -12,6 +13,7 @@ ghost use Prim.Native.Nat.{_≤_};
 ghost use lib.ListN.{length};
 ghost use Rattle.io.specs.Counts.{Counts};
 ghost use Rattle.decimal.specs.Put.{Put};
+ghost use Rattle.rvz.specs.Verdicts.{verdictText, VerdictSaid};
 ghost use Rattle.rvz.specs.Said.{saidOf, questionOf, ruleOf, foundText, ratedText, rateSaid, PairSaid, AnswerSaid};
 
 // What the first argument asks for, of PWM or SPI.
@@ -99,6 +101,25 @@ fn say_rate(text: &mut [u8], spi: bool, a: Decimal, b: Decimal) -> usize
     say_rated(text, rate::pwm_rate(choice, x))
 }
 
+fn say_verdict(text: &mut [u8], verdict: Verdict) -> usize
+    ensures { λ r. ⌜ Put (now (text .entry)) 0 (verdictText verdict) (now (text .exit)) r ⌝ }
+{
+    match verdict {
+        Verdict::Same => text::put_word(text, 0, b"same\n"),
+        Verdict::Negated => text::put_word(text, 0, b"negated\n"),
+        Verdict::Both => text::put_word(text, 0, b"both\n"),
+        Verdict::Different(i) => text::different_text(text, i as u64),
+        Verdict::Refused(n) => text::refused_text(text, n as u64),
+    }
+}
+
+// What is said of a transcript.
+fn judge_log(text: &mut [u8], log: &[u8], transcript: &[u8]) -> usize
+    ensures { λ r. ⌜ VerdictSaid (now (log .entry)) (now (transcript .entry)) (now (text .entry)) (now (text .exit)) r ⌝ }
+{
+    say_verdict(text, judge::judge(log, transcript))
+}
+
 fn usage(text: &mut [u8]) -> usize
     ensures { λ r. ⌜ Counts r (now (text .exit)) ⌝ }
 {
@@ -106,6 +127,7 @@ fn usage(text: &mut [u8]) -> usize
         text,
         0,
         b"usage: rvz                      replays the log on standard input
+       rvz judge FILE           the transcript in FILE by that log: 'same', 'negated', 'both', 'different I' or 'refused R'
        rvz pwm RATE TOL         the pair for a PWM rate: 'choice C x X period P' or 'refused R'
        rvz spi RATE TOL         the pair for an SPI rate
        rvz pwm-rate CHOICE X    the rate of a PWM pair: '40000000 P', a fraction, or 'refused R'
@@ -142,6 +164,24 @@ fn replay_input(text: &mut [u8]) -> usize
     replay_log(text, &log[..n])
 }
 
+// One byte more than the longest transcript has, so that an over-long one shows.
+fn judge_input(text: &mut [u8]) -> usize
+    ensures { λ r. ⌜ Counts r (now (text .exit)) ⌝ }
+{
+    let mut path = io::buffer();
+    let n = os::arg(2, &mut path);
+    let file = os::open_read(&path[..n]);
+    if file < 0 {
+        return text::put_word(text, 0, b"the transcript's file cannot be opened\n");
+    }
+    let mut transcript = [0u8; 16377];
+    let m = io::read_full(file, &mut transcript);
+    libc::close(file);
+    let mut log = [0u8; 32769];
+    let n = io::read_full(STDIN_FILENO, &mut log);
+    judge_log(text, &log[..n], &transcript[..m])
+}
+
 fn answer(text: &mut [u8]) -> usize
     ensures { λ r. ⌜ Counts r (now (text .exit)) ⌝ }
 {
@@ -149,11 +189,17 @@ fn answer(text: &mut [u8]) -> usize
     if words == 1 {
         return replay_input(text);
     }
+    let mut word = io::buffer();
+    let n = os::arg(1, &mut word);
+    if words == 3 {
+        if check::same(&word[..n], b"judge") {
+            return judge_input(text);
+        }
+        return usage(text);
+    }
     if words != 4 {
         return usage(text);
     }
-    let mut word = io::buffer();
-    let n = os::arg(1, &mut word);
     let question = asked(&word[..n]);
     say(text, question, number(2), number(3))
 }

@@ -63,3 +63,20 @@ refusedText r = line (refusedWord ++ digitsOf r)
 
 abbrev pub noNumberText : List ℕ → List ℕ
 noNumberText name = name ++ line (noDecimal ++ digitsOf (2 ^ 64 - 1))
+
+-- ---- a verdict: `same`, `negated`, `both`, `different I`
+
+abbrev pub sameWord : List ℕ
+sameWord = 115 ∷ 97 ∷ 109 ∷ 101 ∷ []
+
+abbrev pub negatedWord : List ℕ
+negatedWord = 110 ∷ 101 ∷ 103 ∷ 97 ∷ 116 ∷ 101 ∷ 100 ∷ []
+
+abbrev pub bothWord : List ℕ
+bothWord = 98 ∷ 111 ∷ 116 ∷ 104 ∷ []
+
+abbrev pub differentWord : List ℕ
+differentWord = 100 ∷ 105 ∷ 102 ∷ 102 ∷ 101 ∷ 114 ∷ 101 ∷ 110 ∷ 116 ∷ 32 ∷ []
+
+abbrev pub differentText : ℕ → List ℕ
+differentText i = line (differentWord ++ digitsOf i)

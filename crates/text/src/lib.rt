@@ -5,7 +5,7 @@ ghost use lib.ListN.{length};
 ghost use Rattle.decimal.specs.Digits.{digitsOf};
 ghost use Rattle.decimal.specs.Put.{Put};
 ghost use Rattle.wire.specs.Bytes.{leOf};
-ghost use Rattle.text.specs.Text.{line, textOf, linesOf, readingsIn, pairText, rateText, refusedText, noNumberText};
+ghost use Rattle.text.specs.Text.{line, textOf, linesOf, readingsIn, pairText, rateText, refusedText, noNumberText, differentText};
 
 pub fn put_word(out: &mut [u8], at: usize, word: &[u8]) -> usize
     ensures { λ r. ⌜ Put (now (out .entry)) at (now (word .entry)) (now (out .exit)) r ⌝ }
@@ -103,4 +103,11 @@ pub fn no_number_text(out: &mut [u8], name: &[u8]) -> usize
         b" is no decimal number from 0 to ",
         18_446_744_073_709_551_615,
     )
+}
+
+// What the judge prints where a transcript differs.
+pub fn different_text(out: &mut [u8], index: u64) -> usize
+    ensures { λ r. ⌜ Put (now (out .entry)) 0 (differentText index) (now (out .exit)) r ⌝ }
+{
+    put_line(out, 0, b"different ", index)
 }

@@ -5,7 +5,8 @@ use lib.ListN.{length-replicate}
 use mathlib.Core.Path.{sym}
 use Prim.Native.Nat.{ℕ}
 use lib.Seq.{length-take-le}
-use Rattle.rvz.proofs.Says.{few, said, room-enough}
+use Rattle.judge.proofs.Whole.{few}
+use Rattle.rvz.proofs.Says.{said, room-enough}
 use Rattle.rvz.proofs.replay_log.Statement.{statement}
 use Rattle.rvz.proofs.replay_log.Tie as tie
 

@@ -1,0 +1,9 @@
+pub mod Numbers
+pub mod Plain
+pub mod Records
+pub mod Placed
+pub mod Going
+pub mod Whole
+pub mod Still
+pub mod Answers
+pub mod Proved

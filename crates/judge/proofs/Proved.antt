@@ -1,0 +1,69 @@
+-- The facts of specs/Facts.antt.
+-- Assumes nothing.
+use mathlib.Core.Path.{_≡_, refl, sym, ap, _∙_}
+use mathlib.Core.Logic.{_⊎_, inl, inr}
+use mathlib.Core.List.{List, _++_}
+use Prim.Native.Nat.{ℕ}
+use native.Mathlib.Omega.{arith}
+use Rattle.fold.specs.Run.{Run, going, stopped, runOf}
+use Rattle.fold.specs.Turn.{Turn}
+use Rattle.fold.specs.Output.{bytesOf}
+use Rattle.wire.specs.Bytes.{leBytes}
+use Rattle.wire.specs.Trailer.{trailerOf, recordsOf}
+use Rattle.wire.specs.declared.Trailer.{Trailer}
+use Rattle.wire.specs.declared.Trailer.the-variants.{Found, Refused}
+use Rattle.wire.proofs.Laws.{one-to-five}
+use Rattle.bank.specs.declared.Bank.{Bank}
+use Rattle.bank.specs.Bank.{fresh}
+use Rattle.replay.specs.Replay.{turnOf, replayFrom, replayOf}
+use Rattle.replay.proofs.Numbers.{run-number}
+use Rattle.replay.proofs.Notes.{same-records}
+use Rattle.replay.proofs.Proved as replayed
+use Rattle.judge.specs.Judge.{negating, plain, opposite, courseOf, Judged, same, negated, both}
+use Rattle.judge.specs.Facts.{Shown, NotesIgnored}
+use Rattle.judge.proofs.Answers as answers
+use Rattle.judge.proofs.Still.{still-only, still-same, negated-twice}
+
+never-six : (log : List ℕ) → courseOf log ≡ stopped 6 → ⊥
+unfolding replayOf replayFrom
+never-six log six = by (trailerOf log) refl
+  where
+    by : (t : Trailer) → trailerOf log ≡ t → ⊥
+    by (Refused k) e =
+        let is : stopped k ≡ stopped 6 = sym (ap (λ (t : Trailer). replayFrom t log 16_384 .course) e) ∙ six in
+        let k-is : k ≡ 6 = cc in
+        omega (arith, one-to-five log k e)
+    by (Found a n) e =
+        let run = replayed.replayed log a n 16_384 e (omega (arith, answers.has-room log)) in
+        omega (arith, run-number (recordsOf log) 6 (sym (ap (λ (x : Run Bank ℕ). x .course) run) ∙ six))
+
+pub shown : (log ts : List ℕ) → Shown log ts
+shown log ts =
+    record {
+      one = answers.there-is log ts;
+      alone = answers.no-two log ts;
+      no-six = never-six log;
+      when-both = λ j. let b = answers.when-both log ts (0, 3, 0) refl j in (b .1, still-only log (b .0) (sym (b .1) ∙ b .2));
+      both-when = λ c p s. both c p (p ∙ still-same log c s);
+      itself = λ c. itself c (answers.alike (plain log) (opposite log));
+      its-negation = λ c. its-negation c (answers.alike (opposite log) (plain log));
+      twice = negated-twice log;
+    }
+  where
+    itself : courseOf log ≡ going → Dec (plain log ≡ opposite log) → Judged log (plain log) (0, 1, 0) ⊎ Judged log (plain log) (0, 3, 0)
+    itself c (yes e) = inr (both c refl e)
+    itself c (no d) = inl (same c refl d)
+
+    its-negation : courseOf log ≡ going → Dec (opposite log ≡ plain log) → Judged log (opposite log) (0, 2, 0) ⊎ Judged log (opposite log) (0, 3, 0)
+    its-negation c (yes e) = inr (both c e refl)
+    its-negation c (no d) = inl (negated c d refl)
+
+pub notes-ignored : NotesIgnored
+notes-ignored notes other tail ts a p q short back =
+    let records = same-records notes tail p short back ∙ sym (same-records other tail q short back) in
+    answers.carried (notes ++ tail) (other ++ tail) ts a
+    (ap (λ (x : Run Bank ℕ). x .course) (replayed.notes-ignored notes other tail 16_384 p q short back))
+    (ap (transcript turnOf) records) (ap (transcript (negating turnOf)) records)
+  where
+    transcript : (Bank → List ℕ → Turn Bank ℕ) → List (List ℕ) → List ℕ
+    transcript turn rs = bytesOf (leBytes 8) (runOf turn fresh rs .readings)

@@ -1,0 +1,26 @@
+-- How the code gets there: what the pass over the records starts from, and the plain comparison. No public promise rests on this.
+-- Assumes nothing.
+use Prim.Native.Nat.{ℕ, _+_, _*_, _/_, _<_, _≤_}
+use mathlib.Core.Path.{_≡_}
+use mathlib.Core.List.{List}
+use lib.ListN.{length, take}
+use Rattle.fold.specs.Run.{going}
+use Rattle.wire.specs.Trailer.{trailerOf}
+use Rattle.wire.specs.declared.Trailer.the-variants.{Found}
+use Rattle.judge.specs.Judge.{plain, courseOf, Agree}
+use Rattle.judge.specs.declared.Verdict.{Verdict}
+use Rattle.judge.specs.declared.Verdict.the-variants.{Same, Different}
+
+-- the log has replayed without refusal, its readings are in out, and the transcript ts is as long as they are
+pub record Ready (log : List ℕ) (start : ℕ) (out ts : List ℕ) : Type 0 where
+  pub records : ℕ
+  pub found : trailerOf log ≡ Found start records
+  pub within : start + 16 * records ≤ length log
+  pub accepted : courseOf log ≡ going
+  pub wrote : take (length (plain log)) out ≡ plain log
+  pub long : length ts ≡ length (plain log)
+
+-- how the transcript compares with the readings as they are
+pub data Plainly (ts out : List ℕ) : Verdict → Type 0 where
+  all : Agree (length ts / 8) ts out → Plainly ts out Same
+  until : {i : ℕ} → i < length ts / 8 → Agree i ts out → (Agree (i + 1) ts out → ⊥) → Plainly ts out (Different i)

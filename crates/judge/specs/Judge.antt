@@ -1,0 +1,73 @@
+-- Paper 02, c: the readers' transcripts judged. A transcript is bytes: "readings as 8-byte numbers, in log order".
+-- Assumes nothing.
+use Prim.Native.Nat.{ℕ, _+_, _*_, _-_, _%_, _^_}
+use mathlib.Core.Path.{_≡_}
+use mathlib.Core.List.{List}
+use mathlib.Core.Bool.{Bool, cond, _&&_}
+use lib.ListN.{length, take}
+use lib.Dec.{eqb}
+use Rattle.fold.specs.Turn.{Turn, retell}
+use Rattle.fold.specs.Run.{Course, going, stopped, runOf}
+use Rattle.fold.specs.Output.{bytesOf}
+use Rattle.wire.specs.Bytes.{byte, leBytes}
+use Rattle.wire.specs.Trailer.{recordsOf}
+use Rattle.bank.specs.declared.Bank.{Bank}
+use Rattle.bank.specs.Bank.{fresh}
+use Rattle.replay.specs.Replay.{turnOf, replayOf}
+use Rattle.judge.specs.declared.Verdict.{Verdict}
+use Rattle.judge.specs.declared.Verdict.the-variants.{Same, Negated, Both, Different, Refused}
+
+-- "negated modulo 2^32"
+abbrev pub neg : ℕ → ℕ
+neg v = (2 ^ 32 - v % 2 ^ 32) % 2 ^ 32
+
+-- a record of block 1 and register 2: what it reads is an encoder's CNTR
+abbrev pub ofCntr : List ℕ → Bool
+ofCntr r = eqb (byte r 1) 1 && eqb (byte r 3) 2
+
+-- what a record does, "once every encoder CNTR reading is negated"
+abbrev pub negating : (Bank → List ℕ → Turn Bank ℕ) → Bank → List ℕ → Turn Bank ℕ
+negating turn b r = retell (λ (v : ℕ). cond (ofCntr r) (neg v) v) (turn b r)
+
+-- the transcript of a log by what its records do: plainly, and negated
+abbrev pub transcriptBy : (Bank → List ℕ → Turn Bank ℕ) → List ℕ → List ℕ
+transcriptBy turn log = bytesOf (leBytes 8) (runOf turn fresh (recordsOf log) .readings)
+
+abbrev pub plain : List ℕ → List ℕ
+plain log = transcriptBy turnOf log
+
+abbrev pub opposite : List ℕ → List ℕ
+opposite log = transcriptBy (negating turnOf) log
+
+-- how the log's replay ends, with room for each of its readings, so that "6 is not given here"
+abbrev pub courseOf : List ℕ → Course
+courseOf log = replayOf log 16_384 .course
+
+-- the first n readings of two transcripts are the same
+abbrev pub Agree : ℕ → List ℕ → List ℕ → Type 0
+Agree n s t = take (8 * n) s ≡ take (8 * n) t
+
+-- What is answered to a log and a transcript ts, in numbers: the refusal, 0 for none; the verdict; and for the verdict 4 the index.
+pub data Judged (log ts : List ℕ) : ℕ × ℕ × ℕ → Type 0 where
+  -- "an accepted log that replays without refusal; otherwise give that log's refusal"
+  refused : {k : ℕ} → courseOf log ≡ stopped k → Judged log ts (k, 0, 0)
+  -- "A transcript of another length than the readings is refused as 17, after all log checks"
+  other-length : courseOf log ≡ going → (length ts ≡ length (plain log) → ⊥) → Judged log ts (17, 0, 0)
+  -- 1 "same", 2 "same once every encoder CNTR reading is negated", 3 "both, given instead of either when both hold"
+  same : courseOf log ≡ going → ts ≡ plain log → (ts ≡ opposite log → ⊥) → Judged log ts (0, 1, 0)
+  negated : courseOf log ≡ going → (ts ≡ plain log → ⊥) → ts ≡ opposite log → Judged log ts (0, 2, 0)
+  both : courseOf log ≡ going → ts ≡ plain log → ts ≡ opposite log → Judged log ts (0, 3, 0)
+  -- 4 "if none of these, different, with the index of the first reading that differs from the plain replay"
+  different : {i : ℕ} → courseOf log ≡ going → length ts ≡ length (plain log) → (ts ≡ opposite log → ⊥)
+      → Agree i ts (plain log) → (Agree (i + 1) ts (plain log) → ⊥) → Judged log ts (0, 4, i)
+
+-- the numbers of an answer
+abbrev pub verdictNumbers : Verdict → ℕ × ℕ × ℕ
+verdictNumbers Same = (0, 1, 0)
+verdictNumbers Negated = (0, 2, 0)
+verdictNumbers Both = (0, 3, 0)
+verdictNumbers (Different i) = (0, 4, i)
+verdictNumbers (Refused k) = (k, 0, 0)
+
+abbrev pub Answer : List ℕ → List ℕ → Verdict → Type 0
+Answer log ts r = Judged log ts (verdictNumbers r)

@@ -1,0 +1,3 @@
+pub mod Judge
+pub mod Facts
+pub mod How

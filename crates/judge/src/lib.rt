@@ -1,0 +1,123 @@
+// Judges a transcript, readings of 8 bytes each in log order, by the replay of a log.
+use wire::Trailer;
+ghost use mathlib.Core.Path.{_≡_};
+ghost use mathlib.Core.Bool.{cond, _&&_};
+ghost use Prim.Native.Nat.{_≤_};
+ghost use lib.ListN.{length};
+ghost use lib.Dec.{eqb};
+ghost use Rattle.judge.specs.Judge.{neg, Answer};
+ghost use Rattle.judge.specs.How.{Ready, Plainly};
+
+// The transcript is the replay's readings; it is once every encoder CNTR reading is negated; both; or its reading of an index is the
+// first that differs from the replay's. Or the log's refusal, or 17.
+pub enum Verdict {
+    Same,
+    Negated,
+    Both,
+    Different(usize),
+    Refused(u8),
+}
+
+fn negate(v: u64) -> u64
+    ensures { λ r. ⌜ r ≡ neg v ⌝ }
+{
+    (4294967296 - v % 4294967296) % 4294967296
+}
+
+fn is_cntr(block: u8, register: u8) -> bool
+    ensures { λ r. ⌜ r ≡ (eqb block 1 && eqb register 2) ⌝ }
+{
+    (block == 1) & (register == 2)
+}
+
+// The transcript with the readings as they are.
+fn plainly(transcript: &[u8], out: &[u8]) -> Verdict
+    requires { ⌜ length (now transcript) ≤ length (now out) ⌝ }
+    ensures { λ r. ⌜ Plainly (now (transcript .entry)) (now (out .entry)) r ⌝ }
+{
+    let n = transcript.len() / 8;
+    let mut next: usize = 0;
+    loop {
+        if next == n {
+            break Verdict::Same;
+        }
+        let i = next;
+        next += 1;
+        let t = wire::le64(transcript, 8 * i);
+        let v = wire::le64(out, 8 * i);
+        if t != v {
+            break Verdict::Different(i);
+        }
+    }
+}
+
+// The transcript with the readings as they are once each encoder CNTR reading is negated, record by record; where one differs, with the
+// readings as they are. While none does, the two are the same just if each CNTR reading is still: its own negation.
+fn compare(log: &[u8], start: usize, out: &[u8], transcript: &[u8]) -> Verdict
+    requires { ⌜ Ready (now log) start (now out) (now transcript) ⌝ }
+    ensures { λ r. ⌜ Answer (now (log .entry)) (now (transcript .entry)) r ⌝ }
+{
+    let n = transcript.len() / 8;
+    let mut still = true;
+    let mut at = start;
+    let mut j: usize = 0;
+    loop {
+        if j == n {
+            if still {
+                break Verdict::Both;
+            }
+            break Verdict::Negated;
+        }
+        if log[at] != 2 {
+            at += 16;
+            continue;
+        }
+        if is_cntr(log[at + 1], log[at + 3]) {
+            let t = wire::le64(transcript, 8 * j);
+            let v = wire::le64(out, 8 * j);
+            let w = negate(v);
+            if t != w {
+                break plainly(transcript, out);
+            }
+            still = still & (w == v);
+            at += 16;
+            j += 1;
+            continue;
+        }
+        let t = wire::le64(transcript, 8 * j);
+        let v = wire::le64(out, 8 * j);
+        if t != v {
+            break plainly(transcript, out);
+        }
+        at += 16;
+        j += 1;
+    }
+}
+
+// The log's refusal first, then 17; 0 for none.
+fn refusal(log: u8, fits: bool) -> u8
+    ensures { λ r. ⌜ r ≡ cond (eqb log 0) (cond fits 0 17) log ⌝ }
+{
+    if log != 0 {
+        return log;
+    }
+    if fits {
+        return 0;
+    }
+    17
+}
+
+pub fn judge(log: &[u8], transcript: &[u8]) -> Verdict
+    ensures { λ r. ⌜ Answer (now (log .entry)) (now (transcript .entry)) r ⌝ }
+{
+    let mut out = [0u8; 16384];
+    let stop = replay::replay(log, &mut out);
+    let number = refusal(stop.refused, transcript.len() == 8 * stop.readings);
+    if number != 0 {
+        return Verdict::Refused(number);
+    }
+    match wire::find(log) {
+        Trailer::Refused(n) => Verdict::Refused(n),
+        Trailer::Found { start, count: _ } => compare(log, start, &out, transcript),
+    }
+}

@@ -1,0 +1,25 @@
+-- `rivandoze::judges::verdict_word` meets its contract. Assumes nothing.
+use borrow.Author.Needs.{needs}
+use Rattle.rivandoze.proofs.JudgeWord.{index-place, index-beside, index-part, refused-part}
+use Rattle.rivandoze.proofs.judges.verdict_word.Statement.{statement}
+use Rattle.rivandoze.proofs.judges.verdict_word.Tie as tie
+use Rattle.rivandoze.proofs.judges.verdict_word.Reads as reads
+use Rattle.rivandoze.proofs.judges.verdict_word.Lts as lts
+
+pub verdict-word-spec : {M : Type 1} → statement M
+verdict-word-spec =
+    tie.close
+    (tie.spec
+    (λ c. search needs)
+    (λ c. search needs)
+    (λ c. search needs)
+    (λ c. search needs)
+    (λ c. search index-place)
+    (λ c. search index-beside)
+    (λ c. search needs)
+    (λ c. search needs)
+    (λ c. search needs)
+    (λ c. search needs)
+    (λ c. search needs)
+    (λ c. search index-part)
+    (λ c. search (refused-part, needs)))

@@ -1,0 +1,19 @@
+-- What the program prints to `judge`: the verdict on a log and a transcript. Assumes nothing.
+use mathlib.Core.List.{List}
+use Prim.Native.Nat.{ℕ}
+use Rattle.decimal.specs.Put.{Put}
+use Rattle.text.specs.Text.{line, refusedText, sameWord, negatedWord, bothWord, differentText}
+use Rattle.judge.specs.declared.Verdict.{Verdict}
+use Rattle.judge.specs.declared.Verdict.the-variants.{Same, Negated, Both, Different, Refused}
+use Rattle.judge.specs.Judge.{Answer}
+
+abbrev pub verdictText : Verdict → List ℕ
+verdictText Same = line sameWord
+verdictText Negated = line negatedWord
+verdictText Both = line bothWord
+verdictText (Different i) = differentText i
+verdictText (Refused n) = refusedText n
+
+-- the text is that of an answer to the log and the transcript ts
+abbrev pub VerdictSaid : List ℕ → List ℕ → List ℕ → List ℕ → ℕ → Type 0
+VerdictSaid log ts out out′ n = (r : Verdict) × Answer log ts r × Put out 0 (verdictText r) out′ n
