@@ -26,6 +26,7 @@ static const struct block blocks[BLOCKS] = {
     {"I2C", 0, {"ADDR", "CNTL", "GO", "state", NULL, NULL}},
 };
 
+/* By their numbers; those of rates, 12 to 15, no log gives. */
 static const char *const reasons[] = {
     "nothing is refused",
     "the log is longer than 32,768 bytes",
@@ -39,6 +40,11 @@ static const char *const reasons[] = {
     "its channel is not routed to any pin",
     "these pin functions cannot be combined",
     "the control code in CNTL is not allowed here",
+    "the wanted rate is out of range",
+    "the tolerance is above 1,000,000",
+    "no pair is within the tolerance",
+    "there is no such divider choice or X",
+    "STOP would follow a received byte that was acknowledged",
 };
 
 /* Everything in a log is little-endian, as readings are. */

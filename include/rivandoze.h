@@ -12,7 +12,7 @@
 extern "C" {
 #endif
 
-/* The refusals of paper 01. 1 to 11 come from a replay, 12 to 15 from the rate calls. */
+/* The refusals of papers 01 and 02. 1 to 11 and 16 come from a replay, 12 to 15 from the rate calls. */
 enum rvz_refusal {
     RVZ_OK = 0,                   /* Nothing is refused. */
     RVZ_LOG_TOO_LONG = 1,         /* The log is longer than 32,768 bytes. */
@@ -29,7 +29,8 @@ enum rvz_refusal {
     RVZ_RATE_OUT_OF_RANGE = 12,   /* The wanted rate is out of range. */
     RVZ_TOLERANCE_TOO_LARGE = 13, /* The tolerance is above 1,000,000. */
     RVZ_NO_PAIR = 14,             /* No pair is within the tolerance. */
-    RVZ_NO_SUCH_PAIR = 15         /* The divider choice is 0 or above 7, or X is above 65,535. */
+    RVZ_NO_SUCH_PAIR = 15,        /* The divider choice is 0 or above 7, or X is above 65,535. */
+    RVZ_STOP_AFTER_ACK = 16       /* GO with STOP alone after a received byte that was acknowledged. */
 };
 
 /* The refusal of any answer, RVZ_OK (0) if none. */
@@ -39,7 +40,8 @@ static inline unsigned rvz_refused(uint64_t answer) { return (unsigned)(answer &
 
 /* Replays the log of `log_len` bytes at `log`. Each read of the log writes its reading, 8 bytes, least byte first, into `out`, which has
  * room for `out_len` bytes, in log order; no other byte of `out` changes. The replay stops at the first refused record. Refusals 1 to 6
- * apply no record and write nothing; 7 to 11 keep what the records before the refused one did, whose index is rvz_applied(answer).
+ * apply no record and write nothing; 7 to 11 and 16 keep what the records before the refused one did, whose index is
+ * rvz_applied(answer).
  * 16,384 bytes of output are enough for every log. `log` and `out` may not overlap, and neither may be NULL, even at length 0. */
 uint64_t rvz_replay(const uint8_t *log, size_t log_len, uint8_t *out, size_t out_len);
 

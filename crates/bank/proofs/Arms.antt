@@ -6,7 +6,7 @@ use Prim.Native.Nat.{ℕ}
 use Rattle.laws.proofs.Cases.{taken, left, arm}
 use Rattle.wire.specs.declared.Record.{Record}
 use Rattle.i2c.specs.declared.I2c.{I2c}
-use Rattle.i2c.specs.I2c.{allowed, code}
+use Rattle.i2c.specs.I2c.{allowed, forbidden, code}
 use Rattle.bank.specs.How.{unrouted, goRefusal, refusalOf}
 
 module _ (select : ℕ) (c : I2c) (x y : Record) (o : ℕ) (e : x ≡ y) where
@@ -22,11 +22,15 @@ module _ (select : ℕ) (c : I2c) (x y : Record) (o : ℕ) (e : x ≡ y) where
     refusal-go d q = refusal-arm (rw (d, ← p) q)
 
 module _ (routed b : Bool) (c : I2c) (r : routed ≡ true) (e : b ≡ allowed (c .phase) (code c)) where
-  pub go-passes : b ≡ true → 0 ≡ goRefusal routed c
-  go-passes h = rw (r, ← e, h)
-
   pub go-stops : b ≡ false → 11 ≡ goRefusal routed c
   go-stops h = rw (r, ← e, h)
+
+  module _ (h : b ≡ true) (f : Bool) (g : f ≡ forbidden (c .phase) (c .acknowledged) (code c)) where
+    pub go-passes : f ≡ false → 0 ≡ goRefusal routed c
+    go-passes k = rw (r, ← e, h, ← g, k)
+
+    pub go-barred : f ≡ true → 16 ≡ goRefusal routed c
+    go-barred k = rw (r, ← e, h, ← g, k)
 
 -- a number by a test, as it was found
 pub by-test : (b t : Bool) (n m k : ℕ) → b ≡ t → b ≡ true → k ≡ n → k ≡ cond t n m

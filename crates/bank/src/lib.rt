@@ -27,7 +27,7 @@ pub fn fresh() -> Bank
     }
 }
 
-// ---- what refuses a record: 9, 10 or 11, or 0
+// ---- what refuses a record: 9, 10, 11 or 16, or 0
 
 fn unrouted(routed: bool) -> u8
     ensures { λ r. ⌜ r ≡ unrouted routed ⌝ }
@@ -46,6 +46,9 @@ fn go_refusal(routed: bool, c: I2c) -> u8
 {
     if routed {
         if c.permits() {
+            if c.forbids() {
+                return 16;
+            }
             return 0;
         }
         return 11;

@@ -1,7 +1,7 @@
--- The I2C control sequencer, as paper 01 has it.
+-- The I2C control sequencer, as paper 01 has it, with what paper 02 (h) has it recall.
 -- Assumes nothing.
 use Prim.Native.Nat.{ℕ}
-use mathlib.Core.Bool.{Bool, not, cond, _&&_, _||_}
+use mathlib.Core.Bool.{Bool, false, not, cond, _&&_, _||_}
 use lib.Dec.{ltb, eqb}
 use Rattle.bits.specs.Bits.{bit}
 use Rattle.fold.specs.Turn.{Turn, goes, refused}
@@ -28,35 +28,47 @@ allowed p k = cond (k .byte)
     (not (k .receive && (k .ack && k .stop)) && (k .start || eqb (stateOf p) (cond (k .receive) 2 1)))
     (not (k .start) && (k .stop && ltb 0 (stateOf p)))
 
+-- "STOP alone": TX/RX 0, START 0, STOP 1, ACK and R/S any
+abbrev pub stopAlone : Code → Bool
+stopAlone k = not (k .byte) && (not (k .start) && k .stop)
+
+-- "A GO in RX idle with STOP alone after such a byte", RX idle being the state 2
+unfoldable pub forbidden : Phase → Bool → Code → Bool
+forbidden p acknowledged k = acknowledged && (eqb (stateOf p) 2 && stopAlone k)
+
 -- "TX/RX 0: .. ends idle"
 -- "TX/RX 1: .. Ends idle on STOP, else TX idle for R/S 0, RX idle for 1"
 abbrev pub ended : Code → Phase
 ended k = cond (k .byte) (cond (k .stop) Idle (cond (k .receive) RxIdle TxIdle)) Idle
 
+-- "whether its last received byte was acknowledged", "false after any send or any STOP": the ACK of a code that receives without STOP
+abbrev pub recalled : Code → Bool
+recalled k = k .byte && (k .receive && (not (k .stop) && k .ack))
+
 -- ---- what happens to the sequencer
 
 abbrev pub onAddr : ℕ → I2c → I2c
-onAddr v c = record { addr = v; cntl = c .cntl; phase = c .phase }
+onAddr v c = record { addr = v; cntl = c .cntl; phase = c .phase; acknowledged = c .acknowledged }
 
 abbrev pub onCntl : ℕ → I2c → I2c
-onCntl v c = record { addr = c .addr; cntl = v; phase = c .phase }
+onCntl v c = record { addr = c .addr; cntl = v; phase = c .phase; acknowledged = c .acknowledged }
 
 -- the code that a GO would run, and the sequencer once it has run
 abbrev pub code : I2c → Code
 code c = codeOf (c .addr) (c .cntl)
 
 abbrev pub ran : I2c → I2c
-ran c = record { addr = c .addr; cntl = c .cntl; phase = ended (code c) }
+ran c = record { addr = c .addr; cntl = c .cntl; phase = ended (code c); acknowledged = recalled (code c) }
 
--- 11 "GO with a control code not allowed"
+-- 11 "GO with a control code not allowed". 16 is "tested after 11"
 abbrev pub goTurn : I2c → Turn I2c ℕ
-goTurn c = cond (allowed (c .phase) (code c)) (goes (ran c)) (refused 11)
+goTurn c = cond (allowed (c .phase) (code c)) (cond (forbidden (c .phase) (c .acknowledged) (code c)) (refused 16) (goes (ran c))) (refused 11)
 
 -- ---- what is read: "0 ADDR, 1 CNTL, .. 3 state"
 
 abbrev pub registerOf : ℕ → I2c → ℕ
 registerOf register c = cond (eqb register 0) (c .addr) (cond (eqb register 1) (c .cntl) (stateOf (c .phase)))
 
--- "Fresh state: all registers 0, I2C idle"
+-- "Fresh state: all registers 0, I2C idle"; the fact "starts false"
 abbrev pub fresh : I2c
-fresh = record { addr = 0; cntl = 0; phase = Idle }
+fresh = record { addr = 0; cntl = 0; phase = Idle; acknowledged = false }

@@ -2,7 +2,7 @@
 ghost use mathlib.Core.Path.{_≡_};
 ghost use mathlib.Core.Bool.{cond};
 ghost use lib.Dec.{ltb, eqb};
-ghost use Rattle.i2c.specs.I2c.{codeOf, code, stateOf, allowed, ended, onAddr, onCntl, ran, registerOf, fresh};
+ghost use Rattle.i2c.specs.I2c.{codeOf, code, stateOf, allowed, forbidden, ended, recalled, onAddr, onCntl, ran, registerOf, fresh};
 
 pub enum Phase {
     Idle,
@@ -14,6 +14,8 @@ pub struct I2c {
     pub addr: u8,
     pub cntl: u8,
     pub phase: Phase,
+    // whether the last received byte was
+    pub acknowledged: bool,
 }
 
 // The control code of a GO.
@@ -70,6 +72,13 @@ fn allowed(phase: Phase, code: Code) -> bool
     !code.start & (code.stop & busy(phase))
 }
 
+// A STOP alone after a byte that was received and acknowledged.
+fn forbidden(phase: Phase, acknowledged: bool, code: Code) -> bool
+    ensures { λ r. ⌜ r ≡ forbidden phase acknowledged code ⌝ }
+{
+    acknowledged & (matches(phase, true) & (!code.byte & (!code.start & code.stop)))
+}
+
 fn ended(code: Code) -> Phase
     ensures { λ r. ⌜ r ≡ ended code ⌝ }
 {
@@ -85,6 +94,12 @@ fn ended(code: Code) -> Phase
     Phase::Idle
 }
 
+fn recalled(code: Code) -> bool
+    ensures { λ r. ⌜ r ≡ recalled code ⌝ }
+{
+    code.byte & (code.receive & (!code.stop & code.ack))
+}
+
 impl I2c {
     pub fn fresh() -> I2c
         ensures { λ r. ⌜ r ≡ fresh ⌝ }
@@ -93,6 +108,7 @@ impl I2c {
             addr: 0,
             cntl: 0,
             phase: Phase::Idle,
+            acknowledged: false,
         }
     }
 
@@ -104,6 +120,7 @@ impl I2c {
             addr: v,
             cntl: self.cntl,
             phase,
+            acknowledged: self.acknowledged,
         }
     }
 
@@ -115,6 +132,7 @@ impl I2c {
             addr: self.addr,
             cntl: v,
             phase,
+            acknowledged: self.acknowledged,
         }
     }
 
@@ -126,14 +144,24 @@ impl I2c {
         allowed(phase, Code::of(self.addr, self.cntl))
     }
 
-    // A GO that is allowed.
+    // Whether a GO that is allowed is forbidden all the same.
+    pub fn forbids(self) -> bool
+        ensures { λ r. ⌜ r ≡ forbidden (self .phase) (self .acknowledged) (code self) ⌝ }
+    {
+        let phase = self.phase;
+        forbidden(phase, self.acknowledged, Code::of(self.addr, self.cntl))
+    }
+
+    // A GO that is not refused.
     pub fn go(self) -> I2c
         ensures { λ r. ⌜ r ≡ ran self ⌝ }
     {
+        let code = Code::of(self.addr, self.cntl);
         I2c {
             addr: self.addr,
             cntl: self.cntl,
-            phase: ended(Code::of(self.addr, self.cntl)),
+            phase: ended(code),
+            acknowledged: recalled(code),
         }
     }
 

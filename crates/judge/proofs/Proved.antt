@@ -16,13 +16,17 @@ use Rattle.wire.proofs.Laws.{one-to-five}
 use Rattle.bank.specs.declared.Bank.{Bank}
 use Rattle.bank.specs.Bank.{fresh}
 use Rattle.replay.specs.Replay.{turnOf, replayFrom, replayOf}
-use Rattle.replay.proofs.Numbers.{run-number}
+use Rattle.replay.proofs.Numbers.{Number, run-number}
 use Rattle.replay.proofs.Notes.{same-records}
 use Rattle.replay.proofs.Proved as replayed
 use Rattle.judge.specs.Judge.{negating, plain, opposite, courseOf, Judged, same, negated, both}
 use Rattle.judge.specs.Facts.{Shown, NotesIgnored}
 use Rattle.judge.proofs.Answers as answers
 use Rattle.judge.proofs.Still.{still-only, still-same, negated-twice}
+
+not-six : Number 6 → ⊥
+not-six (inl h) = omega arith
+not-six (inr e) = omega arith
 
 never-six : (log : List ℕ) → courseOf log ≡ stopped 6 → ⊥
 unfolding replayOf replayFrom
@@ -35,7 +39,7 @@ never-six log six = by (trailerOf log) refl
         omega (arith, one-to-five log k e)
     by (Found a n) e =
         let run = replayed.replayed log a n 16_384 e (omega (arith, answers.has-room log)) in
-        omega (arith, run-number (recordsOf log) 6 (sym (ap (λ (x : Run Bank ℕ). x .course) run) ∙ six))
+        not-six (run-number (recordsOf log) 6 (sym (ap (λ (x : Run Bank ℕ). x .course) run) ∙ six))
 
 pub shown : (log ts : List ℕ) → Shown log ts
 shown log ts =

@@ -21,7 +21,7 @@ pub enum Verdict {
 fn negate(v: u64) -> u64
     ensures { λ r. ⌜ r ≡ neg v ⌝ }
 {
-    (4294967296 - v % 4294967296) % 4294967296
+    std::num::wrapping_sub_u64(0, v) % 4294967296
 }
 
 fn is_cntr(block: u8, register: u8) -> bool
