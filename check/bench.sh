@@ -1,5 +1,5 @@
 #!/usr/bin/env bash
-# The benchmark: what a record of full logs, and a request of the finder, takes by the library and by the second program.
+# The benchmark: what a record of full logs, replayed or judged, and a request of the finder, takes by the library and by the second program.
 #   check/bench.sh [ROUNDS]   how often each is timed; the best counts
 # Instructions are those of x86-64 on any machine, and the same each time. See check/README.md.
 set -u
@@ -28,11 +28,11 @@ take_times() { run64 "$work/bench" times "$work/logs" "$rounds" >"$work/times"; 
 count() { mkfifo "$work/input" && "${system[@]}" "$work/bench" counts "$work/logs" <>"$work/input" >"$work/counts"; }
 
 table() {
-    printf '%-28s %18s %26s\n' '' nanoseconds instructions
-    printf '%-28s %9s %8s %7s %10s %8s %7s\n' '' library second ratio library second ratio
+    printf '%-32s %18s %26s\n' '' nanoseconds instructions
+    printf '%-32s %9s %8s %7s %10s %8s %7s\n' '' library second ratio library second ratio
     paste -d'|' "$work/times" "$work/counts" | awk -F'|' '
         $1 != $4 { exit 1 }
-        { printf "%-28s %9.1f %8.1f %7.2f %10.1f %8.1f %7.2f\n", $1, $2, $3, $2 / $3, $5, $6, $5 / $6 }'
+        { printf "%-32s %9.1f %8.1f %7.2f %10.1f %8.1f %7.2f\n", $1, $2, $3, $2 / $3, $5, $6, $5 / $6 }'
 }
 
 for step in build take_times count; do

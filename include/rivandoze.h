@@ -12,7 +12,7 @@
 extern "C" {
 #endif
 
-/* The refusals of papers 01 and 02. 1 to 11 and 16 come from a replay, 12 to 15 from the rate calls. */
+/* The refusals of papers 01 and 02. 1 to 11 and 16 come from a replay, 12 to 15 from the rate calls, 17 and a log's own from the judge. */
 enum rvz_refusal {
     RVZ_OK = 0,                   /* Nothing is refused. */
     RVZ_LOG_TOO_LONG = 1,         /* The log is longer than 32,768 bytes. */
@@ -30,7 +30,8 @@ enum rvz_refusal {
     RVZ_TOLERANCE_TOO_LARGE = 13, /* The tolerance is above 1,000,000. */
     RVZ_NO_PAIR = 14,             /* No pair is within the tolerance. */
     RVZ_NO_SUCH_PAIR = 15,        /* The divider choice is 0 or above 7, or X is above 65,535. */
-    RVZ_STOP_AFTER_ACK = 16       /* GO with STOP alone after a received byte that was acknowledged. */
+    RVZ_STOP_AFTER_ACK = 16,      /* GO with STOP alone after a byte that was received and acknowledged. */
+    RVZ_WRONG_TRANSCRIPT = 17     /* The transcript has not 8 bytes for each reading of the log. */
 };
 
 /* The refusal of any answer, RVZ_OK (0) if none. */
@@ -56,6 +57,27 @@ static inline uint64_t rvz_reading(const uint8_t *out, size_t index)
     for (i = 7; i >= 0; i--) value = value << 8 | out[8 * index + (size_t)i];
     return value;
 }
+
+/* ---- Transcripts ---- */
+
+/* Judges a transcript by the replay of a log. The transcript, `transcript_len` bytes at `transcript`, is the readings that some program has
+ * found in the log: 8 bytes each, least byte first, in log order, as rvz_replay writes them. Refusals: the log's own, as of a replay whose
+ * output is long enough (so never 6), then 17. Else read the answer by rvz_verdict_of, and by rvz_first_difference where that is
+ * RVZ_DIFFERENT. `log` and `transcript` may not be NULL, even at length 0. */
+uint64_t rvz_judge(const uint8_t *log, size_t log_len, const uint8_t *transcript, size_t transcript_len);
+
+enum rvz_verdict {
+    RVZ_SAME = 1,     /* The transcript is the replay's readings. */
+    RVZ_NEGATED = 2,  /* It is once every encoder CNTR reading of the replay is negated modulo 2^32. */
+    RVZ_BOTH = 3,     /* Both: every encoder CNTR reading is 0 or 2^31, or there is none. The log cannot tell the two apart. */
+    RVZ_DIFFERENT = 4 /* Neither. */
+};
+
+/* The verdict, an rvz_verdict; 0 if refused. */
+static inline unsigned rvz_verdict_of(uint64_t answer) { return (unsigned)(answer >> 8 & 0xFF); }
+
+/* The number of the first reading, 0 being the first, that differs from the replay's; 0 unless the verdict is RVZ_DIFFERENT. */
+static inline uint64_t rvz_first_difference(uint64_t answer) { return answer >> 16; }
 
 /* ---- Rates ---- */
 

@@ -14,7 +14,12 @@ reads|70|1.05
 a mix, waits to 20 ticks|100|1.00
 a mix, waits of any length|100|1.00
 waits only, 20 PWM channels|900|1.30
+reads, judged|75|1.30
+a mix, waits to 20 ticks, judged|100|1.30
 the finder, a request|80|1.00'
+
+# The mix again: the most times as many instructions of the library when it is judged as when it is replayed.
+judged_by_replayed=1.30
 
 # at_most NAME MOST GOT: one test. Nothing at all is no figure.
 at_most() {
@@ -27,6 +32,11 @@ at_most() {
     fi
 }
 
+# instructions ROW: those of the library.
+instructions() {
+    sed -nE "s/^$1( +[0-9]+\.[0-9]+){3} +([0-9]+\.[0-9]+)( +[0-9]+\.[0-9]+){2}\$/\2/p" "$work/out"
+}
+
 must 'bench: the benchmark builds, and finds the same answers on both sides' check/bench.sh 2
 sed 's/^/    /' "$work/out"
 while IFS='|' read -r row instructions times_as_many; do
@@ -36,5 +46,8 @@ while IFS='|' read -r row instructions times_as_many; do
     at_most "bench: instructions of the second program for $row" "$instructions" "${second:-}"
     at_most "bench: times as many of the library for $row" "$times_as_many" "${ratio:-}"
 done <<<"$limits"
+mix='a mix, waits to 20 ticks'
+at_most "bench: times as many of the library for $mix, when judged as when replayed" $judged_by_replayed \
+    "$(awk -v judged="$(instructions "$mix, judged")" -v replayed="$(instructions "$mix")" 'BEGIN { print judged / replayed }')"
 same 'bench: no other row' "$(wc -l <<<"$limits")" "$(grep -cE '( +[0-9]+\.[0-9]+){6}$' "$work/out")"
 exit $failed

@@ -1,9 +1,10 @@
 #!/usr/bin/env bash
-# The replay, from outside: the library for C against the second program, on made, damaged and exhaustive logs. Every byte of the output,
-# of what lies around it and of the log is compared.
+# Replay and judge, from outside: the library for C against the second program, on made, damaged and exhaustive logs and transcripts. Every
+# byte of the output, of what lies around it and of what is lent to be read is compared.
 #   tests/compare.sh                                what the gate runs
 #   tests/compare.sh seconds N                      logs by chance for N seconds
-#   tests/compare.sh rerun FILE OUT PATTERN PLACE   one log again, as a failed test has printed it
+#   tests/compare.sh rerun CALL FILE OUT PATTERN PLACE
+#                                                   one log again, as a failed test has printed it
 # SEED chooses the logs. Logs that fail are written to target/failed.
 set -u
 cd "$(dirname "$0")/.." || exit 2
@@ -14,7 +15,7 @@ work=$(mktemp -d)
 trap 'rm -rf "$work"' EXIT
 seed=${SEED:-$(date +%s)}
 programs=target/check/release
-wrapped=(-Wl,--wrap=rvz_replay check/compare/wrong.c)
+wrapped=(-Wl,--wrap=rvz_replay,--wrap=rvz_judge check/compare/wrong.c)
 
 build_driver() {
     $cc -std=c99 -O2 -Wall -Wextra -Wpedantic -Werror -Iinclude "${@:2}" -o "$1" check/compare/driver.c target/staticlib/librivandoze.a
@@ -44,28 +45,29 @@ test_of_the_tests() {
     same 'compare: a driver without a mistake is let pass' '0 0 0' "$(verdict short "$programs/stand-in" none)"
     local mistakes mistake
     mapfile -t mistakes < <("$programs/stand-in" list)
-    same 'compare: there are mistakes to make' 80 ${#mistakes[@]}
+    same 'compare: there are mistakes to make' 113 ${#mistakes[@]}
     for mistake in "${mistakes[@]}"; do
         same "compare: a driver with the mistake $mistake is seen" '1 1 0' "$(verdict short "$programs/stand-in" "$mistake")"
     done
     same 'compare: a driver that ends without an answer is seen' '1 1 1' "$(verdict short false)"
     same 'compare: a driver that ends badly behind the answers is seen' '1 1 0' \
         "$(verdict short bash -c '"$@"; exit 9' - "$programs/stand-in" none)"
-    again
+    again sign-flipped
+    again judge-low-32-bits
     fences
 }
 
-# A saved log fails again by the printed command's words, and not with a right driver.
+# again MISTAKE: a saved log fails again by the printed command's words, and not with a right driver.
 again() {
-    "$programs/compare" short "$seed" "$work/saved" "$programs/stand-in" sign-flipped >"$work/out"
+    "$programs/compare" short "$seed" "$work/saved" "$programs/stand-in" "$1" >"$work/out"
     local words
     read -ra words < <(sed -n 's/^ *again: tests\/compare.sh rerun //p' "$work/out")
-    "$programs/compare" rerun "${words[@]}" "$programs/stand-in" sign-flipped >"$work/out" 2>&1
-    same 'compare: a saved log fails again' 1 $?
+    "$programs/compare" rerun "${words[@]}" "$programs/stand-in" "$1" >"$work/out" 2>&1
+    same "compare: a saved log that shows $1 fails again" 1 $?
     "$programs/compare" rerun "${words[@]}" "$programs/stand-in" none >"$work/out" 2>&1
-    same 'compare: a saved log passes with a right driver' 0 $?
-    "$programs/rvz-check" from-text <"${words[0]%.log}.txt" | cmp -s - "${words[0]}"
-    same 'compare: a saved log has its text beside it' 0 $?
+    same "compare: a saved log that shows $1 passes with a right driver" 0 $?
+    "$programs/rvz-check" from-text <"${words[1]%.log}.txt" | cmp -s - "${words[1]}"
+    same "compare: a saved log that shows $1 has its text beside it" 0 $?
 }
 
 # The driver itself: a library that touches a byte which it may not is seen.
@@ -73,7 +75,8 @@ fences() {
     must 'compare: the driver builds with a library that touches what it may not' build_driver "$work/wrong" "${wrapped[@]}"
     local wrong
     ulimit -c 0
-    for wrong in {reads,writes}-{before,behind}-output reads-{before,behind}-log writes-log writes-output; do
+    for wrong in {reads,writes}-{before,behind}-output reads-{before,behind}-log writes-log writes-output \
+        judge-reads-{before,behind}-{log,transcript} judge-writes-{log,transcript}; do
         same "compare: a library that $wrong is seen" '1 1' "$(WRONG=$wrong verdict short "${runner[@]}" "$work/wrong" | cut -d' ' -f1,2)"
     done
     same 'compare: the same with nothing touched is let pass' '0 0 0' "$(WRONG=not verdict short "${runner[@]}" "$work/wrong")"
@@ -113,10 +116,11 @@ watched() {
     against 'compare under UndefinedBehaviorSanitizer' short "${runner[@]}" "$work/undefined"
     seen_by UndefinedBehaviorSanitizer 'signed integer overflow' passes-INT_MAX "${sanitized[@]}"
     against 'compare under AddressSanitizer' alone "${system[@]}" "$work/address"
-    seen_by AddressSanitizer 'READ of size 1' "$(echo reads-{before,behind}-{log,output})" "${sanitized[@]}"
+    seen_by AddressSanitizer 'READ of size 1' "$(echo reads-{before,behind}-{log,output} judge-reads-{before,behind}-transcript)" \
+        "${sanitized[@]}"
     seen_by AddressSanitizer 'WRITE of size 1' "$(echo writes-{before,behind}-output)" "${sanitized[@]}"
     against 'compare under valgrind' few "${valgrind[@]}" "$work/driver"
-    seen_by valgrind 'Invalid read of size 1' 'reads-behind-log reads-before-output' "${valgrind[@]}" "$work/wrong"
+    seen_by valgrind 'Invalid read of size 1' 'reads-behind-log reads-before-output judge-reads-behind-transcript' "${valgrind[@]}" "$work/wrong"
     seen_by valgrind 'Invalid write of size 1' writes-behind-output "${valgrind[@]}" "$work/wrong"
     seen_by valgrind 'depends on uninitialised value' uses-unset-memory "${valgrind[@]}" "$work/wrong"
 }

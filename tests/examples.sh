@@ -27,6 +27,9 @@ build() {
     must 'examples: scan.c is C99 by clang' "${clang[@]}" "${strict[@]}" -Iinclude -o "$work/clang" examples/scan.c target/staticlib/librivandoze.a
     must 'examples: scan.c and the header are C++ by g++' g++ "${cxx[@]}" examples/scan.c
     must 'examples: scan.c and the header are C++ by clang' clang++ "${cxx[@]}" examples/scan.c
+    must 'examples: verdict.c is C99 by gcc' $cc "${strict[@]}" -Iinclude -o "$work/verdict" examples/verdict.c target/staticlib/librivandoze.a
+    must 'examples: verdict.c is C99 by clang' "${clang[@]}" "${strict[@]}" -Iinclude -o "$work/verdict-clang" examples/verdict.c target/staticlib/librivandoze.a
+    must 'examples: verdict.c is C++ by g++' g++ "${cxx[@]}" examples/verdict.c
 }
 
 # scans SCAN NAME LOG: what it prints and how it ends against the file beside the log.
@@ -47,6 +50,33 @@ samples() {
         same "examples: the readings of $name are the second program's" "$("$second" <"$log" | grep -v applied)" \
             "$(sed -n 's/^record .* = \([0-9]*\).*/\1/p' "${log%.log}.out")"
     done
+}
+
+# The sample transcripts, each named by its log and its verdict: what `verdict` prints of it against the file beside it, and the program's
+# verdict. The right ones have the second program's readings.
+transcripts() {
+    local transcript name log
+    for transcript in examples/transcripts/*.bin; do
+        name=$(basename "$transcript" .bin)
+        log=examples/logs/${name%-*}.log
+        same "examples: verdict of $name" "$(cat "${transcript%.bin}.out") status 0" "$(run64 "$work/verdict" "$log" "$transcript") status $?"
+        same "examples: rvz judge of $name" "${name#*-}" "$(run64 target/bin/rvz judge "$transcript" <"$log" | cut -d ' ' -f 1)"
+        [[ $name == *-same || $name == *-both ]] || continue
+        same "examples: $name has the second program's readings" "$("$second" <"$log" | grep -v applied | xargs)" \
+            "$(od -An -v -t u8 -w8 --endian=little "$transcript" | xargs)"
+    done
+    same 'examples: verdict of two transcripts' "$(cat examples/transcripts/turns-{same,negated}.out)" \
+        "$(run64 "$work/verdict-clang" examples/logs/turns.log examples/transcripts/turns-{same,negated}.bin)"
+    same 'examples: verdict of a transcript of another log' \
+        'examples/transcripts/whole-same.bin: refused by 17: it has not 8 bytes for each reading of the log status 1' \
+        "$(run64 "$work/verdict" examples/logs/turns.log examples/transcripts/whole-same.bin) status $?"
+    same 'examples: verdict by a log that is refused' \
+        "examples/transcripts/whole-same.bin: refused by 9, which is the log's own refusal status 1" \
+        "$(run64 "$work/verdict" examples/logs/refused-9.log examples/transcripts/whole-same.bin) status $?"
+    run64 "$work/verdict" examples/logs/turns.log "$work/none" 2>"$work/out"
+    same 'examples: verdict of no file' 2 $?
+    run64 "$work/verdict" examples/logs/turns.log 2>"$work/out"
+    same 'examples: verdict without a transcript' '2 usage: verdict LOG TRANSCRIPT..' "$? $(cat "$work/out")"
 }
 
 other_files() {
@@ -83,7 +113,7 @@ installed() {
 
 # The README's C program, and each command line with what it says is printed.
 readme() {
-    local example command shown
+    local example command shown log
     sed -n '/^```c$/,/^```$/{/^```/d;p}' README.md >"$work/readme.c"
     must 'examples: the C program of the README builds' $cc "${strict[@]}" -Iinclude -o "$work/readme" "$work/readme.c" target/staticlib/librivandoze.a
     same 'examples: the C program of the README' $'first reading 1\napplied 5 refused 0' "$(run64 "$work/readme" <examples/logs/whole.log)"
@@ -92,6 +122,11 @@ readme() {
         shown=${shown# }
         same "examples: the README's rvz ${example[*]}" "${shown%%:*}" "$(run64 target/bin/rvz "${example[@]}" </dev/null)"
     done < <(grep '^    rvz [a-z]' README.md)
+    while IFS='#' read -r command shown; do
+        read -r _ _ example shown <<<"${command/</} ${shown}"
+        read -r log shown <<<"$shown"
+        same "examples: the README's rvz judge $example" "$shown" "$(run64 target/bin/rvz judge "$example" <"$log")"
+    done < <(grep '^    target/bin/rvz judge' README.md)
     same 'examples: the logs that the README writes by printf' 'applied 0 refused 5 1 applied 5 refused 0' \
         "$(sed -n 's/^    \(printf .*\) | target\/bin\/rvz.*/\1/p' README.md | while read -r command; do
             bash -c "$command" | run64 target/bin/rvz
@@ -100,6 +135,7 @@ readme() {
 
 build
 samples
+transcripts
 other_files
 installed
 readme

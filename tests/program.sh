@@ -16,9 +16,9 @@ build() {
         cargo build --release --offline --jobs 1 --manifest-path check/Cargo.toml --target-dir target/check
 }
 
-# rvz: the program, on standard input. A status other than 0 is part of what it says.
+# rvz ARGUMENT..: the program, on standard input. A status other than 0 is part of what it says.
 rvz() {
-    run64 target/bin/rvz || echo "status $?"
+    run64 target/bin/rvz "$@" || echo "status $?"
 }
 
 log_of() {
@@ -111,8 +111,95 @@ by_chance() {
     echo 'ok program: 60 logs by chance'
 }
 
+# judges NAME WANTED: one test of `rvz judge` on the log and the transcript at hand.
+judges() {
+    same "program: judge, $1" "$2" "$(rvz judge "$work/transcript" <"$work/log")"
+}
+
+# A count of 1 and one of -1 with other readings beside them, then logs where negated is the same, and refused ones.
+judge_by_hand() {
+    log_of <<'LOG'
+write select 10
+read select
+write encoder 0 cnfg 1
+pins encoder 0 0
+pins encoder 0 1
+read encoder 0 cntr
+pins encoder 0 0
+pins encoder 0 2
+read encoder 0 cntr
+read encoder 0 stat
+LOG
+    "$second" transcript <"$work/log" >"$work/right"
+    cp "$work/right" "$work/transcript"
+    judges 'a right transcript' same
+    same 'program: judge, the same from a pipe' same "$(rvz judge <(cat "$work/right") <"$work/log")"
+    same 'program: judge, the log in pieces of 7 bytes' same "$(in_pieces 7 <"$work/log" | rvz judge "$work/right")"
+    "$second" transcript negated <"$work/log" >"$work/transcript"
+    judges 'a negated transcript' negated
+    { head -c 24 "$work/right"; printf '\2\0\0\0\0\0\0\0'; } >"$work/transcript"
+    judges 'the last reading is another' 'different 3'
+    { printf '\0\0\0\0\0\0\0\1'; tail -c 24 "$work/right"; } >"$work/transcript"
+    judges 'the first reading is another, in its highest byte' 'different 0'
+    { head -c 15 "$work/right"; printf '\200'; tail -c 16 "$work/right"; } >"$work/transcript"
+    judges 'a count with its highest bit turned over' 'different 1'
+    head -c 24 "$work/right" >"$work/transcript"
+    judges 'one reading too few' 'refused 17'
+    head -c 31 "$work/right" >"$work/transcript"
+    judges 'one byte too few' 'refused 17'
+    { cat "$work/right"; printf '\0'; } >"$work/transcript"
+    judges 'one byte too many' 'refused 17'
+    { cat "$work/right"; head -c 100000 /dev/zero; } >"$work/transcript"
+    judges 'far too many' 'refused 17'
+    same 'program: judge, a transcript without an end' 'refused 17' "$(rvz judge /dev/zero <"$work/log")"
+    : >"$work/transcript"
+    judges 'nothing' 'refused 17'
+    : >"$work/log"
+    judges 'nothing of no log' 'refused 2'
+    printf 'ticks 1\n' | log_of
+    judges 'nothing of a log without a reading' both
+    printf 'read i2c go\n' | log_of
+    judges 'a refused record comes before the length' 'refused 7'
+    printf 'write select 10\nread encoder 0 cntr\n' | log_of
+    printf '\0\0\0\0\0\0\0\0' >"$work/transcript"
+    judges 'a count of 0' both
+    { yes 'read select' | head -n 2047; } | log_of
+    head -c 16376 /dev/zero >"$work/transcript"
+    judges 'the longest transcript' both
+    { head -c 16375 /dev/zero; printf '\1'; } >"$work/transcript"
+    judges 'the longest transcript, its last byte another' 'different 2046'
+}
+
+# Logs by chance, some refused, with right, negated and damaged transcripts.
+judge_by_chance() {
+    local i
+    for i in {1..60}; do
+        "$second" generate $((seed + i)) 300 4294967295 20 >"$work/log"
+        "$second" transcript $([ $((i % 2)) -eq 0 ] || echo negated) <"$work/log" >"$work/transcript"
+        [ $((i % 5)) -ne 0 ] || printf '\1' | dd of="$work/transcript" bs=1 seek=$((8 * (i % 3))) conv=notrunc status=none
+        [ $((i % 7)) -ne 0 ] || truncate -s "-$((i % 11))" "$work/transcript" 2>/dev/null
+        rvz judge "$work/transcript" <"$work/log" >"$work/got"
+        "$second" judge "$work/transcript" <"$work/log" >"$work/wanted"
+        cmp -s "$work/wanted" "$work/got" && continue
+        same "program: judge, made log $((seed + i))" "$(cat "$work/wanted")" "$(cat "$work/got")"
+        return
+    done
+    echo 'ok program: judge, 60 transcripts by chance'
+}
+
+judge_usage() {
+    local usage
+    usage=$(rvz help </dev/null)
+    same 'program: the usage names judge' 1 "$(grep -c '^ *rvz judge ' <<<"$usage")"
+    same 'program: judge without a file is the usage' "$usage" "$(rvz judge </dev/null)"
+    same 'program: judge with two files is the usage' "$usage" "$(rvz judge "$work/log" "$work/log" </dev/null)"
+}
+
 build
 by_hand
 by_length
 by_chance
+judge_by_hand
+judge_by_chance
+judge_usage
 exit $failed

@@ -25,16 +25,16 @@ compare() {
     run64 "$work/answers" <"$work/requests" >"$work/given"
     must "rates: $(wc -l <"$work/requests") requests answered as by trying every pair" \
         "$work/rates" compare "$work/requests" "$work/given"
-    must 'rates: no whole rate in range is midway between two periods' "$work/rates" midway
+    must 'rates: no rate in range is midway between two periods' "$work/rates" midway
     local mistake
-    for mistake in rounds-period larger-divider strict-tolerance four-dividers; do
+    for mistake in rounds-period larger-divider strict-tolerance four-dividers cut-to-64-bits whole-hertz period-left-out spi-period-halved; do
         "$work/rates" wrong $mistake "$work/requests" "$work/given" >"$work/out" 2>&1
         same "rates: the comparison sees a finder of the kind $mistake" 1 $?
     done
 }
 
 header() {
-    same 'rates: the accessors of the header' "$(printf '0 1 5\n14 0 0\n0 40000000/12\n1 1')" "$(run64 "$work/header")"
+    same 'rates: the accessors of the header' "$(printf '0 1 5 12\n14 0 0 0\n0 40000000/12\n1 1\n0 4 1\n17 0 0\n1 1')" "$(run64 "$work/header")"
 }
 
 # says WANTED ARGUMENT..: one test of the program.
@@ -61,6 +61,10 @@ program() {
     says 'choice 4 x 62499 period 1000000' spi 40000 0
     says 'refused 14' spi 3650000000 86757
     says 'choice 1 x 5 period 12' spi 3650000000 86758
+    says 'refused 12' pwm 39000 0
+    says 'refused 12' pwm 40001000 0
+    says 'refused 14' pwm 40125 4
+    says 'choice 5 x 62304 period 996880' pwm 40125 5
     says 'refused 12' spi 18446744073709551615 18446744073709551615
     says '40000000 40000' pwm-rate 1 39999
     says '40000000 8388608' spi-rate 7 65535
@@ -84,7 +88,7 @@ program() {
     local usage
     usage=$(run64 target/bin/rvz help </dev/null)
     same 'rates: the usage names each rate question' 'pwm pwm-rate spi spi-rate' \
-        "$(sed -n 's/^ *rvz \([a-z-]*\) .*/\1/p' <<<"$usage" | sort | xargs)"
+        "$(sed -n 's/^ *rvz \([a-z-]*\) .*/\1/p' <<<"$usage" | grep -E '^(pwm|spi)' | sort | xargs)"
     says "$usage" pwm
     says "$usage" pwm 1000
     says "$usage" pwm 1000 0 0

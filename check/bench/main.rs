@@ -8,8 +8,10 @@
 mod rows;
 
 use rivandoze_check::packed;
+use rivandoze_check::reference::judge::transcript;
 use rivandoze_check::reference::log::{READING_LEN, RECORDS_MAX};
-use rows::{requests, Row, ROWS};
+use rivandoze_check::reference::rate::HIGHEST_PWM_RATE;
+use rows::{requests, Does, Row, ROWS};
 use std::path::Path;
 use std::process::Command;
 use std::time::Instant;
@@ -20,9 +22,18 @@ const AT_A_TIME: u64 = 8;
 /// The rounds of two runs under callgrind. Only their difference is told, so that what a run does but once falls out.
 const FEW: u64 = 1;
 const MORE: u64 = 3;
+/// The judge's words for a right transcript, with counts and without.
+const SAME: u64 = 1 << 8;
+const BOTH: u64 = 3 << 8;
 
 extern "C" {
     fn rvz_replay(log: *const u8, log_len: usize, out: *mut u8, out_len: usize) -> u64;
+    fn rvz_judge(
+        log: *const u8,
+        log_len: usize,
+        transcript: *const u8,
+        transcript_len: usize,
+    ) -> u64;
     fn rvz_find_pwm(rate: u64, tolerance: u64) -> u64;
     fn rvz_find_spi(rate: u64, tolerance: u64) -> u64;
 }
@@ -30,6 +41,7 @@ extern "C" {
 #[derive(Clone, Copy)]
 struct Side {
     replay: fn(&[u8], &mut [u8]) -> u64,
+    judge: fn(&[u8], &[u8]) -> u64,
     find_pwm: fn(u64, u64) -> u64,
     find_spi: fn(u64, u64) -> u64,
 }
@@ -37,6 +49,15 @@ struct Side {
 const LIBRARY: Side = Side {
     // SAFETY: both slices are whole, apart and never null.
     replay: |log, out| unsafe { rvz_replay(log.as_ptr(), log.len(), out.as_mut_ptr(), out.len()) },
+    // SAFETY: both slices are whole and never null.
+    judge: |log, transcript| unsafe {
+        rvz_judge(
+            log.as_ptr(),
+            log.len(),
+            transcript.as_ptr(),
+            transcript.len(),
+        )
+    },
     // SAFETY: numbers only.
     find_pwm: |rate, tolerance| unsafe { rvz_find_pwm(rate, tolerance) },
     find_spi: |rate, tolerance| unsafe { rvz_find_spi(rate, tolerance) },
@@ -44,6 +65,7 @@ const LIBRARY: Side = Side {
 
 const SECOND: Side = Side {
     replay: packed::replay,
+    judge: packed::judge,
     find_pwm: packed::find_pwm,
     find_spi: packed::find_spi,
 };
@@ -51,17 +73,20 @@ const SECOND: Side = Side {
 /// One row of one side.
 struct Bench {
     side: Side,
-    finds: bool,
+    does: Does,
     asked: Vec<u8>,
+    transcript: Vec<u8>,
     out: Vec<u8>,
 }
 
 impl Bench {
     fn new(folder: &Path, row: &Row, side: Side) -> Self {
+        let asked = fs::read(folder.join(row.name)).expect("what the row is about");
         Bench {
             side,
-            finds: row.finds,
-            asked: fs::read(folder.join(row.name)).expect("what the row is about"),
+            does: row.does,
+            transcript: transcript(&asked, |count| count),
+            asked,
             out: vec![0; RECORDS_MAX * READING_LEN],
         }
     }
@@ -77,18 +102,25 @@ impl Bench {
     }
 
     fn round(&mut self) -> u64 {
-        if self.finds {
-            return requests(&self.asked).fold(0, |sum, (rate, tolerance)| {
+        match self.does {
+            Does::Replay => {
+                let word = (self.side.replay)(&self.asked, &mut self.out);
+                assert_eq!(word, (RECORDS_MAX as u64) << 8, "not all is applied");
+                word
+            }
+            Does::Judge => {
+                let word = (self.side.judge)(&self.asked, &self.transcript);
+                assert!([SAME, BOTH].contains(&word), "not judged to be right");
+                word
+            }
+            Does::Find => requests(&self.asked).fold(0, |sum, (rate, tolerance)| {
                 with(sum, self.find(rate, tolerance))
-            });
+            }),
         }
-        let word = (self.side.replay)(&self.asked, &mut self.out);
-        assert_eq!(word, (RECORDS_MAX as u64) << 8, "not all is applied");
-        word
     }
 
     fn find(&self, rate: u64, tolerance: u64) -> u64 {
-        if rate > 40_000 {
+        if rate > HIGHEST_PWM_RATE {
             (self.side.find_spi)(rate, tolerance)
         } else {
             (self.side.find_pwm)(rate, tolerance)

@@ -1,7 +1,8 @@
-//! What each row of the benchmark is about: a full log, or requests of the finder.
+//! What each row of the benchmark is about: a full log, to be replayed or judged, or requests of the finder.
 
 use rivandoze_check::generate::{generate, Rng, Settings};
 use rivandoze_check::reference::log::{build, RECORDS_MAX};
+use rivandoze_check::reference::rate::{HIGHEST_PWM_RATE, HIGHEST_SPI_RATE, LOWEST_RATE};
 use rivandoze_check::reference::record::{Fields, ENCODER, I2C, PWM, SELECT, TICKS_MAX};
 
 const ALL_ENCODERS: u64 = 0xAA_AAAA_AAAA;
@@ -9,43 +10,45 @@ const ALL_PWMS: u64 = 0x55_5555_5555;
 const REQUESTS: usize = 4_096;
 const REQUEST_LEN: usize = 16;
 
+#[derive(Clone, Copy)]
+pub enum Does {
+    Replay,
+    /// By a right transcript.
+    Judge,
+    Find,
+}
+
 pub struct Row {
     pub name: &'static str,
-    /// Whether it is about the finder, and not about a replay.
-    pub finds: bool,
+    pub does: Does,
     /// The log, or the requests as bytes.
     pub make: fn() -> Vec<u8>,
 }
 
-pub const ROWS: [Row; 7] = [
-    replay("pins of one encoder", || pins(1)),
-    replay("pins of ten encoders", || pins(10)),
-    replay("reads", reads),
-    replay("a mix, waits to 20 ticks", || mix(20)),
-    replay("a mix, waits of any length", || mix(TICKS_MAX)),
-    replay("waits only, 20 PWM channels", waits_only),
-    Row {
-        name: "the finder, a request",
-        finds: true,
-        make: some_requests,
-    },
+pub const ROWS: [Row; 9] = [
+    row("pins of one encoder", Does::Replay, || pins(1)),
+    row("pins of ten encoders", Does::Replay, || pins(10)),
+    row("reads", Does::Replay, reads),
+    row("a mix, waits to 20 ticks", Does::Replay, || mix(20)),
+    row("a mix, waits of any length", Does::Replay, || {
+        mix(TICKS_MAX)
+    }),
+    row("waits only, 20 PWM channels", Does::Replay, waits_only),
+    row("reads, judged", Does::Judge, reads),
+    row("a mix, waits to 20 ticks, judged", Does::Judge, || mix(20)),
+    row("the finder, a request", Does::Find, some_requests),
 ];
 
-const fn replay(name: &'static str, make: fn() -> Vec<u8>) -> Row {
-    Row {
-        name,
-        finds: false,
-        make,
-    }
+const fn row(name: &'static str, does: Does, make: fn() -> Vec<u8>) -> Row {
+    Row { name, does, make }
 }
 
 impl Row {
     /// The records or requests that a round goes through.
     pub fn parts(&self) -> usize {
-        if self.finds {
-            REQUESTS
-        } else {
-            RECORDS_MAX
+        match self.does {
+            Does::Find => REQUESTS,
+            Does::Replay | Does::Judge => RECORDS_MAX,
         }
     }
 }
@@ -122,7 +125,10 @@ fn log_of(records: &[Fields]) -> Vec<u8> {
 fn some_requests() -> Vec<u8> {
     let mut rng = Rng::new(4);
     let mut one = |index: usize| {
-        let (least, most) = [(40, 40_000), (40_001, 4_000_000)][index % 2];
+        let (least, most) = [
+            (LOWEST_RATE, HIGHEST_PWM_RATE),
+            (HIGHEST_PWM_RATE + 1, HIGHEST_SPI_RATE),
+        ][index % 2];
         let most = most.min(least << rng.below(12));
         let rate = rng.between(least, most);
         let tolerance = rng.pick(&[0, 100, 10_000, 1_000_000]);

@@ -1,5 +1,5 @@
-/* Replays each log that it is asked for by the library, and gives back the word and every byte of the output and of the guard bytes
- * around it. See check/src/exchange.rs for what goes over the pipes. */
+/* Makes each call of the library that it is asked for, and gives back the word and every byte of the output and of the guard bytes around
+ * it. See check/src/exchange.rs for what goes over the pipes. */
 #define _DEFAULT_SOURCE
 #include <stdint.h>
 #include <stdio.h>
@@ -11,6 +11,7 @@
 #include "rivandoze.h"
 
 enum { GUARD = 64, ROOM = 1 << 20 };
+enum call { REPLAY, JUDGE };
 enum place { BETWEEN_GUARDS, BEFORE_THE_END, BEHIND_THE_START, ALONE };
 
 static void stop(const char *why) {
@@ -56,6 +57,8 @@ static struct area lay(uint8_t *room, enum place place, size_t len) {
 
 static size_t whole(const struct area *area) { return area->before + area->len + area->behind; }
 
+static uint8_t *inside(const struct area *area) { return area->start + area->before; }
+
 static void fill(const struct area *area, uint64_t pattern) {
     for (size_t i = 0; i < whole(area); i++) {
         pattern = pattern * 6364136223846793005u + 1442695040888963407u;
@@ -78,38 +81,71 @@ static void give(const void *from, size_t len) {
     }
 }
 
-int main(void) {
-    uint8_t *log_room = fenced(), *out_room = fenced();
-    uint8_t *copy = malloc(ROOM);
-    uint64_t request[4];
-    if (copy == NULL) {
+/* What is lent to be read, and a copy of it with its guards. */
+struct lent {
+    uint8_t *room, *copy;
+    struct area area;
+};
+
+static struct lent reserve(void) {
+    struct lent lent = {fenced(), malloc(ROOM), {NULL, 0, 0, 0}};
+    if (lent.copy == NULL) {
         stop("no memory");
     }
-    while (take(request, sizeof request)) {
-        if (request[0] > ROOM - 2 * GUARD || request[1] > ROOM - 2 * GUARD || request[3] > ALONE) {
+    return lent;
+}
+
+static void take_lent(struct lent *lent, enum place place, size_t len) {
+    lent->area = lay(lent->room, place, len);
+    memset(lent->area.start, 0xA5, whole(&lent->area));
+    if (!take(inside(&lent->area), len) && len != 0) {
+        stop("half a request");
+    }
+    memcpy(lent->copy, lent->area.start, whole(&lent->area));
+}
+
+static int kept(const struct lent *lent) { return memcmp(lent->copy, lent->area.start, whole(&lent->area)) == 0; }
+
+static uint64_t answer_to(enum call call, const struct area *log, const struct area *beside, const struct area *out) {
+    switch (call) {
+    case REPLAY:
+        return rvz_replay(inside(log), log->len, inside(out), out->len);
+    case JUDGE:
+        return rvz_judge(inside(log), log->len, inside(beside), beside->len);
+    }
+    stop("no such call");
+    return 0;
+}
+
+int main(void) {
+    struct lent log = reserve(), beside = reserve();
+    uint8_t *out_room = fenced();
+    struct { uint64_t call, log_len, beside_len, out_len, pattern, place; } request;
+    const size_t most = ROOM - 2 * GUARD;
+    while (take(&request, sizeof request)) {
+        if (request.log_len > most || request.beside_len > most || request.out_len > most || request.place > ALONE) {
             stop("no such request");
         }
-        struct area log = lay(log_room, (enum place)request[3], request[0]);
-        struct area out = lay(out_room, (enum place)request[3], request[1]);
-        fill(&out, request[2]);
-        memset(log.start, 0xA5, whole(&log));
-        if (!take(log.start + log.before, log.len) && log.len != 0) {
-            stop("half a request");
-        }
-        memcpy(copy, log.start, whole(&log));
+        enum place place = (enum place)request.place;
+        take_lent(&log, place, request.log_len);
+        take_lent(&beside, place, request.beside_len);
+        struct area out = lay(out_room, place, request.out_len);
+        fill(&out, request.pattern);
 
         uint64_t answer[2];
-        answer[0] = rvz_replay(log.start + log.before, log.len, out.start + out.before, out.len);
-        answer[1] = memcmp(copy, log.start, whole(&log)) == 0;
+        answer[0] = answer_to((enum call)request.call, &log.area, &beside.area, &out);
+        answer[1] = kept(&log) && kept(&beside);
 
         give(answer, sizeof answer);
         give(out.start, whole(&out));
         fflush(stdout);
-        if (request[3] == ALONE) {
-            free(log.start);
+        if (place == ALONE) {
+            free(log.area.start);
+            free(beside.area.start);
             free(out.start);
         }
     }
-    free(copy);
+    free(log.copy);
+    free(beside.copy);
     return 0;
 }

@@ -8,6 +8,8 @@
 
 uint64_t __real_rvz_replay(const uint8_t *log, size_t log_len, uint8_t *out, size_t out_len);
 uint64_t __wrap_rvz_replay(const uint8_t *log, size_t log_len, uint8_t *out, size_t out_len);
+uint64_t __real_rvz_judge(const uint8_t *log, size_t log_len, const uint8_t *transcript, size_t transcript_len);
+uint64_t __wrap_rvz_judge(const uint8_t *log, size_t log_len, const uint8_t *transcript, size_t transcript_len);
 
 static void look(const uint8_t *at) {
     volatile uint8_t seen = *(const volatile uint8_t *)at;
@@ -41,5 +43,17 @@ uint64_t __wrap_rvz_replay(const uint8_t *log, size_t log_len, uint8_t *out, siz
     if (strcmp(wrong, "writes-output") == 0 && out_len > 0) change(out + out_len - 1);
     if (strcmp(wrong, "uses-unset-memory") == 0) use_unset();
     if (strcmp(wrong, "passes-INT_MAX") == 0) pass_int_max();
+    return answer;
+}
+
+uint64_t __wrap_rvz_judge(const uint8_t *log, size_t log_len, const uint8_t *transcript, size_t transcript_len) {
+    uint64_t answer = __real_rvz_judge(log, log_len, transcript, transcript_len);
+    const char *wrong = getenv("WRONG");
+    if (strcmp(wrong, "judge-reads-before-log") == 0) look(log - 1);
+    if (strcmp(wrong, "judge-reads-behind-log") == 0) look(log + log_len);
+    if (strcmp(wrong, "judge-writes-log") == 0 && log_len > 0) change((uint8_t *)log);
+    if (strcmp(wrong, "judge-reads-before-transcript") == 0) look(transcript - 1);
+    if (strcmp(wrong, "judge-reads-behind-transcript") == 0) look(transcript + transcript_len);
+    if (strcmp(wrong, "judge-writes-transcript") == 0 && transcript_len > 0) change((uint8_t *)transcript);
     return answer;
 }

@@ -1,8 +1,8 @@
-//! A second rate finder, written from paper 01 alone: it tries all 7 x 65,536 pairs, in exact arithmetic.
+//! A second rate finder, written from the papers alone: it tries all 7 x 65,536 pairs, in 128 bits. Wanted rates are in millihertz.
 //!
 //! usage: rates ask SEED               the requests, one to a line: a kind, and its two numbers
 //!        rates compare FILE ANSWERS   FILE has the requests, ANSWERS the number that each was answered by; tells of each difference
-//!        rates midway                 the whole rates in range that are equally near to two periods: none, so no request tells a finder
+//!        rates midway                 the rates in range that are equally near to two periods: none, so no request tells a finder
 //!                                     that breaks such a tie to the longer period, which is left to the proof
 //!        rates wrong HOW FILE ANSWERS the same with a mistake of the reference's own, up to the first difference
 //!
@@ -11,7 +11,11 @@ use std::env;
 use std::fs;
 use std::process::exit;
 
-const CLOCK: u128 = 40_000_000;
+/// In millihertz.
+const CLOCK: u128 = 40_000_000_000;
+const LOWEST: u64 = 40_000;
+const HIGHEST_PWM: u64 = 40_000_000;
+const HIGHEST_SPI: u64 = 4_000_000_000;
 const MILLION: u128 = 1_000_000;
 
 /// A mistake that people make. The comparison has to see it.
@@ -24,8 +28,16 @@ enum Mistake {
     LargerDivider,
     /// The tolerance itself is not allowed.
     StrictTolerance,
-    /// The dividers 16, 32 and 64 are left out. (In whole hertz and in range 32 and 64 never win.)
+    /// The dividers 16, 32 and 64 are left out. (In range 32 and 64 never win: the period of 40 Hz is within the reach of 16.)
     FourDividers,
+    /// The products that the tolerance is tested by lose what is above 64 bits.
+    CutTo64Bits,
+    /// The rate is rounded to whole hertz first.
+    WholeHertz,
+    /// The period is not in the answer.
+    PeriodLeftOut,
+    /// The period is in the answer without the two ticks of an SPI count.
+    SpiPeriodHalved,
 }
 
 struct Pair {
@@ -33,11 +45,11 @@ struct Pair {
     x: u64,
     n: u128,
     p: u128,
-    /// |40,000,000 - fP|
+    /// |40,000,000,000 - fP|, f in millihertz
     miss: u128,
 }
 
-/// Whether `a` wins over `b`: less error |40,000,000/P - f|, then smaller P, then smaller N.
+/// Whether `a` wins over `b`: less error |40,000,000/P - f/1,000|, then smaller P, then smaller N.
 fn wins(a: &Pair, b: &Pair, mistake: Mistake) -> bool {
     let (mine, other) = match mistake {
         Mistake::RoundsPeriod => (a.miss, b.miss),
@@ -69,7 +81,12 @@ fn best(base: u128, f: u128, tol: u128, mistake: Mistake) -> Option<Pair> {
         for x in 0..=65_535u64 {
             let p = base * n * (x as u128 + 1);
             let miss = CLOCK.abs_diff(f * p);
-            let (error, allowed) = (MILLION * miss, tol * (f * p));
+            let (error, allowed) = match (MILLION * miss, tol * (f * p)) {
+                (error, allowed) if mistake == Mistake::CutTo64Bits => {
+                    ((error as u64).into(), (allowed as u64).into())
+                }
+                products => products,
+            };
             if error > allowed || (mistake == Mistake::StrictTolerance && error == allowed) {
                 continue;
             }
@@ -90,15 +107,26 @@ fn best(base: u128, f: u128, tol: u128, mistake: Mistake) -> Option<Pair> {
 }
 
 fn find(base: u128, high: u64, f: u64, tol: u64, mistake: Mistake) -> u64 {
-    if f < 40 || f > high {
+    if f < LOWEST || f > high {
         return 12;
     }
     if tol > 1_000_000 {
         return 13;
     }
-    match best(base, f as u128, tol as u128, mistake) {
+    let sought = match mistake {
+        Mistake::WholeHertz => (f + 500) / 1_000 * 1_000,
+        _ => f,
+    };
+    match best(base, sought.into(), tol.into(), mistake) {
         None => 14,
-        Some(pair) => pair.choice << 8 | pair.x << 16,
+        Some(pair) => {
+            let period = match mistake {
+                Mistake::PeriodLeftOut => 0,
+                Mistake::SpiPeriodHalved => pair.p / base,
+                _ => pair.p,
+            };
+            pair.choice << 8 | pair.x << 16 | (period as u64) << 32
+        }
     }
 }
 
@@ -112,8 +140,8 @@ fn rate(base: u64, choice: u64, x: u64) -> u64 {
 
 fn answer(kind: &str, a: u64, b: u64, mistake: Mistake) -> u64 {
     match kind {
-        "P" => find(1, 40_000, a, b, mistake),
-        "S" => find(2, 4_000_000, a, b, mistake),
+        "P" => find(1, HIGHEST_PWM, a, b, mistake),
+        "S" => find(2, HIGHEST_SPI, a, b, mistake),
         "p" => rate(1, a, b),
         "s" => rate(2, a, b),
         _ => panic!("no kind: {kind}"),
@@ -135,18 +163,24 @@ impl Random {
         self.next() % n
     }
 
-    /// 40 to high, as many of each size.
+    /// The lowest to high, as many of each size.
     fn rate(&mut self, high: u64) -> u64 {
-        let top = 40 << self.below(18);
-        40 + self.below(top.min(high) - 39)
+        let top = LOWEST << self.below(18);
+        LOWEST + self.below(top.min(high) - LOWEST + 1)
     }
 }
 
 /// The least tolerance that has a pair.
 fn least_tolerance(base: u128, f: u64) -> u64 {
-    let pair = best(base, f as u128, MILLION, Mistake::None).expect("a pair within the whole rate");
-    let whole = f as u128 * pair.p;
+    let pair = best(base, f.into(), MILLION, Mistake::None).expect("a pair within the whole rate");
+    let whole = u128::from(f) * pair.p;
     ((MILLION * pair.miss + whole - 1) / whole) as u64
+}
+
+/// The divisors of the clock in a range: it is 2^12 times 5^10.
+fn divisors(high: u64) -> impl Iterator<Item = u64> {
+    let all = (0..=12).flat_map(|twos| (0..=10).map(move |fives| (1 << twos) * 5u64.pow(fives)));
+    all.filter(move |d| (LOWEST..=high).contains(d))
 }
 
 fn ask_find(kind: &str, base: u128, high: u64, random: &mut Random) {
@@ -157,16 +191,19 @@ fn ask_find(kind: &str, base: u128, high: u64, random: &mut Random) {
     };
     // the worked sums of paper 01, of either kind, and what the wrong references are seen by
     for (f, tol) in [
-        (1_000, 0),
-        (40, 0),
-        (39, 0),
-        (40_001, 0),
-        (610, 3),
-        (610, 4),
-        (4_000_000, 0),
-        (3_650_000, 86_757),
-        (3_650_000, 86_758),
-        (41, 1_000_000),
+        (1_000_000, 0),
+        (40_000, 0),
+        (39_000, 0),
+        (40_001_000, 0),
+        (610_000, 3),
+        (610_000, 4),
+        (4_000_000_000, 0),
+        (3_650_000_000, 86_757),
+        (3_650_000_000, 86_758),
+        (41_000, 1_000_000),
+        (40_125, 4),
+        (40_125, 5),
+        (40_125, 1_000_000),
     ] {
         ask(f, tol);
     }
@@ -175,9 +212,10 @@ fn ask_find(kind: &str, base: u128, high: u64, random: &mut Random) {
     for f in [
         0,
         1,
-        39,
         40,
-        41,
+        LOWEST - 1,
+        LOWEST,
+        LOWEST + 1,
         high - 1,
         high,
         high + 1,
@@ -189,12 +227,10 @@ fn ask_find(kind: &str, base: u128, high: u64, random: &mut Random) {
         }
     }
     // next to the clock's divisors
-    for d in 40..=high {
-        if 40_000_000 % d == 0 {
-            for f in [d - 1, d, d + 1] {
-                ask(f, 0);
-                ask(f, random.below(1_000));
-            }
+    for d in divisors(high) {
+        for f in [d - 1, d, d + 1] {
+            ask(f, 0);
+            ask(f, random.below(1_000));
         }
     }
     // on both sides of the least tolerance
@@ -248,7 +284,7 @@ fn ask_rate(kind: &str, random: &mut Random) {
     eprintln!("{kind}: {asked} requests");
 }
 
-/// How many whole rates in range lie midway between two neighbouring periods' rates.
+/// How many rates in range lie midway between two neighbouring periods' rates.
 fn midway(base: u128, high: u128) -> usize {
     let mut periods: Vec<u128> = (0..7)
         .flat_map(|i| (1..=65_536).map(move |count| (base << i) * count))
@@ -257,7 +293,7 @@ fn midway(base: u128, high: u128) -> usize {
     periods.dedup();
     let is_midway = |p: u128, q: u128| {
         let (sum, parts) = (CLOCK * (p + q), 2 * p * q);
-        sum % parts == 0 && (40..=high).contains(&(sum / parts))
+        sum % parts == 0 && (LOWEST.into()..=high).contains(&(sum / parts))
     };
     periods
         .windows(2)
@@ -299,12 +335,15 @@ fn main() {
     match words[..] {
         ["ask", seed] => {
             let mut random = Random(seed.parse::<u64>().expect("a seed").max(1));
-            ask_find("P", 1, 40_000, &mut random);
-            ask_find("S", 2, 4_000_000, &mut random);
+            ask_find("P", 1, HIGHEST_PWM, &mut random);
+            ask_find("S", 2, HIGHEST_SPI, &mut random);
             ask_rate("p", &mut random);
             ask_rate("s", &mut random);
         }
-        ["midway"] => exit((midway(1, 40_000) + midway(2, 4_000_000) > 0) as i32),
+        ["midway"] => {
+            let found = midway(1, HIGHEST_PWM.into()) + midway(2, HIGHEST_SPI.into());
+            exit((found > 0) as i32)
+        }
         ["compare", file, answers] => {
             let differences = compare(file, answers, Mistake::None);
             println!("{differences} differences");
@@ -316,6 +355,10 @@ fn main() {
                 "larger-divider" => Mistake::LargerDivider,
                 "strict-tolerance" => Mistake::StrictTolerance,
                 "four-dividers" => Mistake::FourDividers,
+                "cut-to-64-bits" => Mistake::CutTo64Bits,
+                "whole-hertz" => Mistake::WholeHertz,
+                "period-left-out" => Mistake::PeriodLeftOut,
+                "spi-period-halved" => Mistake::SpiPeriodHalved,
                 _ => panic!("no such mistake: {how}"),
             };
             exit((compare(file, answers, mistake) > 0) as i32);

@@ -4,8 +4,9 @@
 
 mod by_chance;
 mod in_order;
+mod judged;
 
-use crate::exchange::{Request, PLACES};
+use crate::exchange::{Call, Request, PLACES};
 use crate::generate::Rng;
 use crate::reference::log::{records, READING_LEN, RECORDS_MAX};
 use crate::reference::record::{Fields, ENCODER, I2C, PWM, READ, SELECT};
@@ -81,15 +82,31 @@ pub const FAMILIES: &[Family] = &[
     family!("waits to every edge", false, in_order::waits),
     family!("every I2C code", false, in_order::i2c_codes),
     family!("every pair of pin functions", false, in_order::selects),
+    family!("transcripts", true, judged::transcripts),
+    family!("transcripts of full logs", true, judged::full_logs),
+    family!("every bit of a transcript", false, judged::bits),
+    family!("transcripts of every length", false, judged::lengths),
+    family!("transcripts beside refused logs", false, judged::refused),
 ];
 
 /// A log lent with an output of the given length, somewhere.
 fn lent(log: Vec<u8>, out_len: usize, rng: &mut Rng) -> Request {
     Request {
+        call: Call::Replay,
         log,
+        beside: Vec::new(),
         out_len,
         pattern: rng.draw(),
         place: rng.pick(&PLACES),
+    }
+}
+
+/// A log lent to the judge with a transcript, somewhere.
+fn judged(log: Vec<u8>, transcript: Vec<u8>, rng: &mut Rng) -> Request {
+    Request {
+        call: Call::Judge,
+        beside: transcript,
+        ..lent(log, 0, rng)
     }
 }
 

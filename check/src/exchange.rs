@@ -1,17 +1,46 @@
-//! How a driver is asked for a replay, and how it answers, over two pipes.
+//! How a driver is asked for a call of the library, and how it answers, over two pipes.
 //!
-//! A request is four numbers of 64 bits (the log's length, the output's length, the seed of the
-//! pattern, the place) and the log. The answer is two numbers (the word, and 1 if the log and the
-//! bytes around it are as they were), then every byte of the guards and of the output between them.
-//! All numbers are little-endian. The end of the requests is told when all are answered.
-//! `compare/driver.c` speaks the same.
+//! A request is six numbers of 64 bits (the call, the lengths of the log, of what is lent beside it and
+//! of the output, the seed of the pattern, the place), the log, and what is lent beside it. The answer
+//! is two numbers (the word, and 1 if what was lent to be read and the bytes around it are as they were),
+//! then every byte of the guards and of the output between them. All numbers are little-endian. The
+//! end of the requests is told when all are answered. `compare/driver.c` speaks the same.
 
+use crate::packed;
 use std::io::{self, Read, Write};
+
+/// The numbers of a request.
+pub const HEADER_LEN: usize = 48;
 
 /// How many guard bytes lie on a side that has some.
 pub const GUARD_LEN: usize = 64;
 
-/// What lies around the log and around the output.
+#[derive(Debug, Clone, Copy, PartialEq, Eq)]
+pub enum Call {
+    Replay = 0,
+    Judge = 1,
+}
+
+pub const CALLS: [Call; 2] = [Call::Replay, Call::Judge];
+
+impl Call {
+    pub fn name(self) -> &'static str {
+        match self {
+            Call::Replay => "replay",
+            Call::Judge => "judge",
+        }
+    }
+
+    pub fn from_name(name: &str) -> Option<Call> {
+        CALLS.into_iter().find(|call| call.name() == name)
+    }
+
+    fn from_number(number: u64) -> Option<Call> {
+        CALLS.into_iter().find(|&call| call as u64 == number)
+    }
+}
+
+/// What lies around the log, around what is lent beside it, and around the output.
 #[derive(Debug, Clone, Copy, PartialEq, Eq)]
 pub enum Place {
     /// Guard bytes on both sides.
@@ -48,7 +77,10 @@ impl Place {
 
 #[derive(Debug, Clone, PartialEq, Eq)]
 pub struct Request {
+    pub call: Call,
     pub log: Vec<u8>,
+    /// What is lent beside the log: the judge's transcript.
+    pub beside: Vec<u8>,
     pub out_len: usize,
     pub pattern: u64,
     pub place: Place,
@@ -57,7 +89,8 @@ pub struct Request {
 #[derive(Debug, Clone, PartialEq, Eq)]
 pub struct Answer {
     pub word: u64,
-    pub log_kept: bool,
+    /// Whether nothing was changed of what was lent to be read.
+    pub kept: bool,
     pub area: Area,
 }
 
@@ -110,42 +143,66 @@ impl Request {
         }
     }
 
+    /// The answer by the reference.
+    pub fn right_answer(&self) -> Answer {
+        let mut area = self.area();
+        let word = match self.call {
+            Call::Replay => packed::replay(&self.log, area.out()),
+            Call::Judge => packed::judge(&self.log, &self.beside),
+        };
+        Answer {
+            word,
+            kept: true,
+            area,
+        }
+    }
+
     pub fn write_to(&self, to: &mut impl Write) -> io::Result<()> {
         let numbers = [
+            self.call as u64,
             self.log.len() as u64,
+            self.beside.len() as u64,
             self.out_len as u64,
             self.pattern,
             self.place as u64,
         ];
         to.write_all(&numbers.map(u64::to_le_bytes).concat())?;
         to.write_all(&self.log)?;
+        to.write_all(&self.beside)?;
         to.flush()
     }
 
     /// The next request, or nothing at the end of input.
     pub fn read_from(from: &mut impl Read) -> io::Result<Option<Request>> {
         let mut header = Vec::new();
-        from.by_ref().take(32).read_to_end(&mut header)?;
+        from.by_ref()
+            .take(HEADER_LEN as u64)
+            .read_to_end(&mut header)?;
         if header.is_empty() {
             return Ok(None);
         }
-        let header: [u8; 32] = header.try_into().map_err(|_| broken("half a request"))?;
-        let number = |index: usize| number_at(&header, index);
-        let place = Place::from_number(number(3)).ok_or_else(|| broken("no such place"))?;
-        let mut log = vec![0; number(0) as usize];
-        from.read_exact(&mut log)?;
+        if header.len() < HEADER_LEN {
+            return Err(broken("half a request"));
+        }
+        let number = |index| number_at(&header, index);
+        let mut bytes = |len: u64| {
+            let mut bytes = vec![0; len as usize];
+            from.read_exact(&mut bytes).map(|()| bytes)
+        };
         Ok(Some(Request {
-            log,
-            out_len: number(1) as usize,
-            pattern: number(2),
-            place,
+            call: Call::from_number(number(0)).ok_or_else(|| broken("no such call"))?,
+            log: bytes(number(1))?,
+            beside: bytes(number(2))?,
+            out_len: number(3) as usize,
+            pattern: number(4),
+            place: Place::from_number(number(5)).ok_or_else(|| broken("no such place"))?,
         }))
     }
 }
 
 impl Answer {
     pub fn write_to(&self, to: &mut impl Write) -> io::Result<()> {
-        let numbers = [self.word, u64::from(self.log_kept)];
+        let numbers = [self.word, u64::from(self.kept)];
         to.write_all(&numbers.map(u64::to_le_bytes).concat())?;
         to.write_all(&self.area.bytes)?;
         to.flush()
@@ -159,7 +216,7 @@ impl Answer {
         from.read_exact(&mut area.bytes)?;
         Ok(Answer {
             word: number_at(&header, 0),
-            log_kept: number_at(&header, 1) == 1,
+            kept: number_at(&header, 1) == 1,
             area,
         })
     }

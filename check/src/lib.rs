@@ -1,4 +1,4 @@
-//! The independent second program of Rivandoze: the rules of paper 01 in plain Rust.
+//! The independent second program of Rivandoze: the rules of papers 01 and 02 in plain Rust.
 //!
 //! `reference` holds the rules, `packed` the same answers as single numbers, `text` a written form
 //! of logs, `generate` a seeded maker of logs, `cases` what the library is asked in a comparison,

@@ -2,20 +2,25 @@
 //! and for writing logs by hand.
 
 use rivandoze_check::generate::{generate, Settings};
+use rivandoze_check::reference::judge::{negated, transcript};
 use rivandoze_check::reference::log::{each_reading, LOG_MAX, READING_LEN, RECORDS_MAX};
 use rivandoze_check::reference::refusal::Refusal;
 use rivandoze_check::reference::{
-    find_pwm, find_spi, rate_pwm, rate_spi, replay_fully, Outcome, Pair,
+    find_pwm, find_spi, judge, rate_pwm, rate_spi, replay_fully, Outcome, Pair, Verdict,
 };
 use rivandoze_check::text::{from_text, to_text};
 use std::fmt::Write as _;
+use std::fs::File;
 use std::io::{self, Read, Write as _};
 use std::process::ExitCode;
 
 const USAGE: &str = "\
 rvz-check                       replay the log on standard input
 rvz-check state                 the same, and show the end state
-rvz-check pwm RATE TOL          find a divider choice and X
+rvz-check judge FILE            a reader's transcript in a file against the log on standard input
+rvz-check transcript [negated]  the transcript of the log on standard input, or the one with every
+                                encoder CNTR reading negated
+rvz-check pwm RATE TOL          find a divider choice and X for a rate in millihertz
 rvz-check spi RATE TOL
 rvz-check pwm-rate CHOICE X     the rate that registers give
 rvz-check spi-rate CHOICE X
@@ -54,6 +59,12 @@ fn answer(words: &[&str]) -> Result<Vec<u8>, String> {
             let verdict = readings_and_verdict(&whole);
             format!("{verdict}{:#?}\n", whole.outcome.bank)
         }
+        ["judge", file] => {
+            let transcript = transcript_in(file).map_err(|error| format!("{file}: {error}"))?;
+            verdict(judge(&input(LOG_MAX + 1)?, &transcript))
+        }
+        ["transcript"] => return Ok(transcript(&input(LOG_MAX + 1)?, |count| count)),
+        ["transcript", "negated"] => return Ok(transcript(&input(LOG_MAX + 1)?, negated)),
         ["pwm", rate, tol] => pair(find_pwm(number(rate)?, number(tol)?)),
         ["spi", rate, tol] => pair(find_spi(number(rate)?, number(tol)?)),
         ["pwm-rate", choice, x] => fraction(rate_pwm(number(choice)?, number(x)?)),
@@ -86,6 +97,16 @@ fn input(most: usize) -> Result<Vec<u8>, String> {
     Ok(bytes)
 }
 
+/// The bytes of a file, up to one more than any transcript has.
+fn transcript_in(file: &str) -> io::Result<Vec<u8>> {
+    let most = RECORDS_MAX * READING_LEN + 1;
+    let mut bytes = Vec::new();
+    File::open(file)?
+        .take(most as u64)
+        .read_to_end(&mut bytes)?;
+    Ok(bytes)
+}
+
 struct Replayed {
     outcome: Outcome,
     out: Vec<u8>,
@@ -112,9 +133,19 @@ fn readings_and_verdict(replayed: &Replayed) -> String {
     text
 }
 
+fn verdict(answer: Result<Verdict, Refusal>) -> String {
+    match answer {
+        Ok(Verdict::Same) => "same\n".into(),
+        Ok(Verdict::Negated) => "negated\n".into(),
+        Ok(Verdict::Both) => "both\n".into(),
+        Ok(Verdict::Different(index)) => format!("different {index}\n"),
+        Err(refusal) => refused(refusal),
+    }
+}
+
 fn pair(answer: Result<Pair, Refusal>) -> String {
     match answer {
-        Ok(pair) => format!("choice {} x {}\n", pair.choice, pair.x),
+        Ok(Pair { choice, x, period }) => format!("choice {choice} x {x} period {period}\n"),
         Err(refusal) => refused(refusal),
     }
 }

@@ -2,11 +2,22 @@
 //! rest 0 when refused but for the records applied.
 
 use crate::reference::refusal::{Refusal, NONE};
-use crate::reference::{self, Pair};
+use crate::reference::{self, Pair, Verdict};
 
 pub fn replay(log: &[u8], out: &mut [u8]) -> u64 {
     let answer = reference::replay(log, out);
     u64::from(answer.refusal) | answer.applied << 8
+}
+
+pub fn judge(log: &[u8], transcript: &[u8]) -> u64 {
+    let (number, index) = match reference::judge(log, transcript) {
+        Ok(Verdict::Same) => (1, 0),
+        Ok(Verdict::Negated) => (2, 0),
+        Ok(Verdict::Both) => (3, 0),
+        Ok(Verdict::Different(index)) => (4, index),
+        Err(refusal) => return refusal.into(),
+    };
+    u64::from(NONE) | number << 8 | index << 16
 }
 
 pub fn find_pwm(rate: u64, tol: u64) -> u64 {
@@ -27,7 +38,10 @@ pub fn rate_spi(choice: u64, x: u64) -> u64 {
 
 fn pair(answer: Result<Pair, Refusal>) -> u64 {
     match answer {
-        Ok(pair) => u64::from(NONE) | u64::from(pair.choice) << 8 | u64::from(pair.x) << 16,
+        Ok(pair) => {
+            let registers = u64::from(pair.choice) << 8 | u64::from(pair.x) << 16;
+            u64::from(NONE) | registers | pair.period << 32
+        }
         Err(refusal) => u64::from(refusal),
     }
 }

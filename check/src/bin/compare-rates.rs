@@ -1,5 +1,5 @@
-//! Compares the rate calls of the library with the reference: every rate of the PWM range, and by
-//! chance SPI rates and registers.
+//! Compares the rate calls of the library with the reference: a grid over the PWM range that has all
+//! whole hertz in it, and by chance rates of both ranges and registers.
 //!
 //! usage: compare-rates SEED DRIVER..
 //!
@@ -8,13 +8,18 @@
 
 use rivandoze_check::generate::Rng;
 use rivandoze_check::packed;
-use rivandoze_check::reference::rate::{HIGHEST_PWM_RATE, HIGHEST_SPI_RATE, MILLION, X_MAX};
+use rivandoze_check::reference::clock::CLOCK_MILLIHERTZ;
+use rivandoze_check::reference::rate::{
+    HIGHEST_PWM_RATE, HIGHEST_SPI_RATE, LOWEST_RATE, MILLION, X_MAX,
+};
 use rivandoze_check::reference::{find_pwm, find_spi};
 use std::io::{BufRead, BufReader, BufWriter, Write};
 use std::process::{ChildStdin, Command, ExitCode, Stdio};
 use std::thread;
 
-const SPI_REQUESTS: usize = 100_000;
+/// In millihertz, a part of a whole hertz.
+const GRID: u64 = 125;
+const RANDOM_REQUESTS: usize = 60_000;
 const REGISTER_REQUESTS: usize = 20_000;
 /// How many differences are told one by one.
 const TOLD: usize = 5;
@@ -112,17 +117,20 @@ fn same(requests: &[Request], answers: &[String]) -> bool {
 
 fn requests(mut rng: Rng) -> Vec<Request> {
     let mut requests = Vec::new();
-    for rate in 0..=HIGHEST_PWM_RATE + 40 {
+    for rate in (0..=HIGHEST_PWM_RATE + 40 * GRID).step_by(GRID as usize) {
         requests.push(find('P', rate, &mut rng));
     }
-    for edge in [0, 38, 39, 40, 41, HIGHEST_SPI_RATE - 1, HIGHEST_SPI_RATE] {
-        requests.push(find('S', edge, &mut rng));
-        requests.push(find('S', edge + 1, &mut rng));
-    }
-    for _ in 0..SPI_REQUESTS {
-        let most = HIGHEST_SPI_RATE.min(64 << rng.below(17));
-        let rate = rng.between(40, most);
-        requests.push(find('S', rate, &mut rng));
+    for (kind, highest) in [('P', HIGHEST_PWM_RATE), ('S', HIGHEST_SPI_RATE)] {
+        for edge in [0, 39, 40, LOWEST_RATE, highest, u64::from(u32::MAX)] {
+            for rate in edge.saturating_sub(2)..=edge + 2 {
+                requests.push(find(kind, rate, &mut rng));
+            }
+        }
+        for _ in 0..RANDOM_REQUESTS {
+            let most = highest.min(LOWEST_RATE << rng.between(1, 17));
+            let rate = rng.between(LOWEST_RATE, most);
+            requests.push(find(kind, rate, &mut rng));
+        }
     }
     for _ in 0..REGISTER_REQUESTS {
         let any = rng.below(X_MAX + 1);
@@ -141,7 +149,7 @@ fn find(kind: char, rate: u64, rng: &mut Rng) -> Request {
     };
     let least = best.map_or(0, |pair| {
         let reached = rate * pair.period;
-        let error = MILLION * reached.abs_diff(40_000_000);
+        let error = MILLION * reached.abs_diff(CLOCK_MILLIHERTZ);
         (error + reached - 1) / reached
     });
     let tolerance = match rng.below(5) {

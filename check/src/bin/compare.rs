@@ -1,9 +1,8 @@
-//! Compares a driver, which replays by the library, with the reference: every word, and every byte of
-//! the output and of what lies around it.
+//! Compares a driver, which calls the library, with the reference: every word, and every byte of the
+//! output and of what lies around it.
 
 use rivandoze_check::cases::{Requests, Size, FAMILIES};
-use rivandoze_check::exchange::{Answer, Place, Request};
-use rivandoze_check::packed;
+use rivandoze_check::exchange::{Answer, Call, Place, Request};
 use rivandoze_check::reference::log::{records, READING_LEN};
 use rivandoze_check::reference::record::READ;
 use rivandoze_check::text::{record_to_text, to_text};
@@ -20,8 +19,9 @@ compare short SEED DIR DRIVER..            fewer of them, up to the first differ
 compare alone SEED DIR DRIVER..            the same logs, of one driver, each in a block of the heap of its own
 compare few SEED DIR DRIVER..              every twentieth of these, for a slow driver
 compare seconds N SEED DIR DRIVER..        logs by chance, for so many seconds
-compare rerun FILE OUT PATTERN PLACE DRIVER..
-                                           one log, with what was lent to it
+compare rerun CALL FILE OUT PATTERN PLACE DRIVER..
+                                           one log, with what was lent to it; what was lent beside it
+                                           is in a file of the same name that ends in .beside
 A log that is answered otherwise than by the reference is written to DIR.
 ";
 
@@ -29,6 +29,8 @@ A log that is answered otherwise than by the reference is written to DIR.
 const AHEAD: usize = 64;
 /// Every which log of a family is one of the few.
 const FEW: usize = 20;
+/// How the file ends that has what was lent beside a log.
+const BESIDE: &str = "beside";
 
 fn main() -> ExitCode {
     let words: Vec<String> = std::env::args().skip(1).collect();
@@ -128,9 +130,11 @@ impl<'a> Against<'a> {
         match ask(requests, self.driver)? {
             Outcome::Same { logs, applied } => {
                 let seconds = start.elapsed().as_secs_f64();
-                println!(
-                    "ok compare: {name}, seed {seed}: {logs} logs, {applied} records applied, {seconds:.1} s"
-                );
+                let applied = match applied {
+                    0 => String::new(),
+                    _ => format!(" {applied} records applied,"),
+                };
+                println!("ok compare: {name}, seed {seed}: {logs} logs,{applied} {seconds:.1} s");
                 Ok(true)
             }
             Outcome::Differs(difference) => {
@@ -150,8 +154,9 @@ impl<'a> Against<'a> {
 }
 
 fn rerun(words: &[String]) -> Result<bool, String> {
-    let (file, numbers, driver) = match words {
-        [file, out_len, pattern, place, driver @ ..] if !driver.is_empty() => (
+    let (call, file, numbers, driver) = match words {
+        [call, file, out_len, pattern, place, driver @ ..] if !driver.is_empty() => (
+            call,
             file,
             [number(out_len)?, number(pattern)?, number(place)?],
             driver,
@@ -160,7 +165,9 @@ fn rerun(words: &[String]) -> Result<bool, String> {
     };
     let [out_len, pattern, place] = numbers;
     let request = Request {
+        call: Call::from_name(call).ok_or_else(|| format!("no such call: {call}"))?,
         log: fs::read(file).map_err(|error| format!("{file}: {error}"))?,
+        beside: fs::read(Path::new(file).with_extension(BESIDE)).unwrap_or_default(),
         out_len: out_len as usize,
         pattern,
         place: Place::from_number(place).ok_or("a place is 0, 1, 2 or 3")?,
@@ -207,7 +214,7 @@ fn ask(requests: Requests, driver: &[String]) -> Result<Outcome, String> {
     let mut outcome = (0, 0);
     for request in receiver {
         let (index, applied) = outcome;
-        let wanted = reference(&request);
+        let wanted = request.right_answer();
         let got = Answer::read_from(&mut stdout, &request).ok();
         if got.as_ref() != Some(&wanted) {
             let _ = child.kill();
@@ -219,7 +226,11 @@ fn ask(requests: Requests, driver: &[String]) -> Result<Outcome, String> {
                 got,
             }));
         }
-        outcome = (index + 1, applied + (wanted.word >> 8));
+        let newly_applied = match request.call {
+            Call::Replay => wanted.word >> 8,
+            Call::Judge => 0,
+        };
+        outcome = (index + 1, applied + newly_applied);
     }
     let stdin = asking
         .join()
@@ -259,16 +270,6 @@ fn send_all(
     stdin
 }
 
-fn reference(request: &Request) -> Answer {
-    let mut area = request.area();
-    let word = packed::replay(&request.log, area.out());
-    Answer {
-        word,
-        log_kept: true,
-        area,
-    }
-}
-
 impl Difference {
     fn told(&self) -> String {
         let got = match &self.got {
@@ -278,11 +279,12 @@ impl Difference {
         let wanted = &self.wanted;
         let mut lines = Vec::new();
         if got.word != wanted.word {
-            lines.push(format!("    wanted {}", word(wanted.word)));
-            lines.push(format!("    got    {}", word(got.word)));
+            let call = self.request.call;
+            lines.push(format!("    wanted {}", word(call, wanted.word)));
+            lines.push(format!("    got    {}", word(call, got.word)));
         }
-        if !got.log_kept {
-            lines.push("    the log, or a byte beside it, was changed".into());
+        if !got.kept {
+            lines.push("    what was lent to be read, or a byte beside it, was changed".into());
         }
         let mut pairs = wanted.area.bytes.iter().zip(&got.area.bytes);
         if let Some(index) = pairs.position(|(wanted, got)| wanted != got) {
@@ -307,8 +309,15 @@ impl Difference {
     }
 }
 
-fn word(word: u64) -> String {
-    format!("applied {} refused {}", word >> 8, word & 0xFF)
+fn word(call: Call, word: u64) -> String {
+    let refused = word & 0xFF;
+    match call {
+        Call::Replay => format!("applied {} refused {refused}", word >> 8),
+        Call::Judge => {
+            let (verdict, index) = (word >> 8 & 0xFF, word >> 16);
+            format!("verdict {verdict} index {index} refused {refused}")
+        }
+    }
 }
 
 /// The log and its text, side by side, and how to ask for it again.
@@ -318,10 +327,12 @@ fn save(stem: &Path, request: &Request) -> Result<(), String> {
         "{} {} {}",
         request.out_len, request.pattern, request.place as u64
     );
-    let command = format!("tests/compare.sh rerun {} {lent}", log.display());
+    let call = request.call.name();
+    let command = format!("tests/compare.sh rerun {call} {} {lent}", log.display());
     let text = format!("# {command}\n{}", to_text(&request.log));
     let written = fs::create_dir_all(stem.parent().unwrap_or(stem))
         .and_then(|()| fs::write(&log, &request.log))
+        .and_then(|()| fs::write(stem.with_extension(BESIDE), &request.beside))
         .and_then(|()| fs::write(stem.with_extension("txt"), text));
     written.map_err(|error| format!("{}: {error}", stem.display()))?;
     println!("    again: {command}");

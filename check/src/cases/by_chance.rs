@@ -47,7 +47,7 @@ fn with_end_read(log: &[u8]) -> Vec<u8> {
     [in_front, &reads.concat(), &Trailer::of(distance).to_bytes()].concat()
 }
 
-fn short_log(rng: &mut Rng) -> Vec<u8> {
+pub fn short_log(rng: &mut Rng) -> Vec<u8> {
     let settings = Settings {
         most_records: 60,
         most_ticks: rng.pick(&LONGEST_WAITS),

@@ -7,11 +7,11 @@ use crate::reference::log::{build, Trailer, EDITION, LOG_MAX, MARK, RECORDS_MAX,
 use crate::reference::record::{Fields, ENCODER, I2C, PWM, RECORD_LEN, SELECT, TICKS_MAX};
 use std::collections::BTreeSet;
 
-const ALL_ENCODERS: u64 = 0xAA_AAAA_AAAA;
+pub const ALL_ENCODERS: u64 = 0xAA_AAAA_AAAA;
 const ALL_PWMS: u64 = 0x55_5555_5555;
 const I2C_PINS: u64 = 0xF << 28;
 
-fn log_of(records: &[Fields]) -> Vec<u8> {
+pub fn log_of(records: &[Fields]) -> Vec<u8> {
     let bytes: Vec<_> = records.iter().map(|fields| fields.to_bytes()).collect();
     build(&[], &bytes)
 }
@@ -408,25 +408,44 @@ fn edges_of_waits([cnfg, cs, max, cmp]: [u64; 4]) -> Vec<u64> {
     waits.filter(|&ticks| ticks <= TICKS_MAX).collect()
 }
 
-/// Every state, R/S and control code.
+/// Every state, R/S and control code, after a byte that was acknowledged and after one that was not;
+/// then STOP alone, which shows what is recalled.
 pub fn i2c_codes(mut rng: Rng, _: Size) -> Requests {
-    let all = (0..3u64).flat_map(|state| {
-        (0..2u64).flat_map(move |receive| (0..16u64).map(move |cntl| (state, receive, cntl)))
+    // The codes that lead to idle, TX idle and RX idle, if any, by R/S and CNTL.
+    let before = [
+        None,
+        Some((0, 0b0011)),
+        Some((0, 0b1011)),
+        Some((1, 0b0011)),
+        Some((1, 0b1011)),
+    ];
+    let all = before.into_iter().flat_map(|before| {
+        (0..2u64).flat_map(move |receive| (0..16u64).map(move |cntl| (before, receive, cntl)))
     });
-    Box::new(all.map(move |(state, receive, cntl)| {
-        let mut records = vec![Fields::write(SELECT, 0, 0, I2C_PINS)];
-        if state > 0 {
-            records.push(Fields::write(I2C, 0, 0, state - 1));
-            records.push(Fields::write(I2C, 0, 1, 0b0011));
-            records.push(Fields::write(I2C, 0, 2, 1));
-        }
-        records.push(Fields::write(I2C, 0, 0, (rng.below(128) << 1) | receive));
-        records.push(Fields::write(I2C, 0, 1, cntl));
-        records.push(Fields::read(I2C, 0, 3));
-        records.push(Fields::write(I2C, 0, 2, 1));
-        records.push(Fields::read(I2C, 0, 3));
-        lent_well(log_of(&records), &mut rng)
+    Box::new(all.flat_map(move |(before, receive, cntl)| {
+        BETWEEN.map(|between| {
+            let mut records = vec![Fields::write(SELECT, 0, 0, I2C_PINS)];
+            records.extend(before.into_iter().flat_map(|(addr, cntl)| go(addr, cntl)));
+            records.extend(
+                between
+                    .iter()
+                    .map(|&value| Fields::write(SELECT, 0, 0, value)),
+            );
+            records.push(Fields::read(I2C, 0, 3));
+            records.extend(go((rng.below(128) << 1) | receive, cntl));
+            records.push(Fields::read(I2C, 0, 3));
+            records.extend(go(rng.below(256), rng.pick(&[0b0100, 0b1100])));
+            records.push(Fields::read(I2C, 0, 3));
+            lent_well(log_of(&records), &mut rng)
+        })
     }))
+}
+
+/// What is written to SELECT between two bytes: nothing, and away and back.
+const BETWEEN: [&[u64]; 2] = [&[], &[0, I2C_PINS]];
+
+fn go(addr: u64, cntl: u64) -> [Fields; 3] {
+    [(0, addr), (1, cntl), (2, 1)].map(|(register, value)| Fields::write(I2C, 0, register, value))
 }
 
 /// Every four functions of two neighbouring pairs, with and without SPI and I2C whole beside them;

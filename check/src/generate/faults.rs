@@ -1,4 +1,4 @@
-//! Records that are refused: refusals 7 to 11 in every clause.
+//! Records that are refused: refusals 7 to 11 and 16 in every clause.
 
 use super::maker::{select_value, set_pair, settled, Functions, Maker, I2C_PINS, SPI_PINS};
 use crate::reference::encoder::{CNFG_MAX, PINS_MAX};
@@ -6,7 +6,8 @@ use crate::reference::i2c::{State, ACK, ADDR_MAX, CNTL_MAX, START, STOP, TX_RX};
 use crate::reference::pwm::CS_MAX;
 use crate::reference::record::{Fields, ENCODER, I2C, PWM, READ, SELECT, TICKS_MAX, WRITE};
 use crate::reference::refusal::{
-    Refusal, GO_NOT_ALLOWED, NOT_ROUTED, RECORD_UNKNOWN, SELECT_NOT_ALLOWED, VALUE_OUT_OF_RANGE,
+    Refusal, GO_NOT_ALLOWED, NOT_ROUTED, RECORD_UNKNOWN, SELECT_NOT_ALLOWED, STOP_AFTER_ACK,
+    VALUE_OUT_OF_RANGE,
 };
 
 /// The most records that a fault takes, with those that lead up to it.
@@ -278,6 +279,18 @@ pub const FAULTS: &[Fault] = &[
         |maker| {
             let cntl = code_without_start(maker);
             go(maker, State::RxIdle, 0x80, cntl)
+        },
+    ),
+    fault!(
+        "GO: STOP alone after an acknowledged byte",
+        STOP_AFTER_ACK,
+        |maker| {
+            maker.route_i2c();
+            maker.prepare_go(0x21, TX_RX | START | ACK);
+            maker.write(I2C, 0, 2, 1);
+            let (addr, ack) = (maker.rng.below(256) as u8, maker.rng.pick(&[0, ACK]));
+            maker.prepare_go(addr, STOP | ack);
+            Fields::write(I2C, 0, 2, 1)
         },
     ),
 ];

@@ -172,6 +172,8 @@ impl Maker {
             return;
         }
         match state {
+            // The last byte before STOP is not acknowledged.
+            State::Idle if self.bank.i2c.acknowledged => self.prepare_go(0x21, TX_RX | STOP),
             State::Idle => self.prepare_go(0, STOP),
             State::TxIdle => self.prepare_go(0x20, START | TX_RX),
             State::RxIdle => self.prepare_go(0x21, START | TX_RX),

@@ -336,22 +336,19 @@ fn i2c_talk(maker: &mut Maker) {
 }
 
 fn allowed_code(maker: &mut Maker) -> (u8, u8) {
-    let state = maker.bank.i2c.state;
+    let now = maker.bank.i2c.clone();
+    let ends = |addr, cntl| I2c { addr, cntl, ..now }.after_go();
     let codes: Vec<(u8, u8)> = (0..2)
         .flat_map(|receive| (0..16).map(move |cntl| (receive, cntl)))
-        .filter(|&(addr, cntl)| I2c { addr, cntl, state }.after_go().is_some())
+        .filter(|&(addr, cntl)| ends(addr, cntl).is_ok())
         // Else most talks would be over at once.
-        .filter(|&(addr, cntl)| leaves_bus(addr, cntl, state) == maker.rng.chance(40))
+        .filter(|&(addr, cntl)| (ends(addr, cntl) == Ok(State::Idle)) == maker.rng.chance(40))
         .collect();
     if codes.is_empty() {
         return (0, 0b0011);
     }
     let (receive, cntl) = maker.rng.pick(&codes);
     ((maker.rng.below(128) as u8) << 1 | receive, cntl)
-}
-
-fn leaves_bus(addr: u8, cntl: u8, state: State) -> bool {
-    I2c { addr, cntl, state }.after_go() == Some(State::Idle)
 }
 
 fn read_anything(maker: &mut Maker) {

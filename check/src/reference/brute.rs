@@ -1,7 +1,7 @@
-//! The finder by brute force, word for word from paper 01. It shares only constants with the fast
-//! one, which is compared with it.
+//! The finder by brute force, word for word from the papers, in 128 bits. It shares only constants
+//! with the fast one, which is compared with it.
 
-use super::clock::{CLOCK_HZ, DIVIDERS};
+use super::clock::{CLOCK_MILLIHERTZ, DIVIDERS};
 use super::rate::{Pair, HIGHEST_PWM_RATE, HIGHEST_SPI_RATE, LOWEST_RATE, MILLION, X_MAX};
 use super::refusal::{Refusal, NO_PAIR, RATE_OUT_OF_RANGE, TOLERANCE_TOO_WIDE};
 
@@ -55,7 +55,7 @@ fn within(rate: u64, tol: u64, pair: &Pair) -> bool {
         <= u128::from(tol) * u128::from(rate) * u128::from(pair.period)
 }
 
-/// |40,000,000 - fP|.
+/// A thousand times |40,000,000 - f/1,000 P|.
 fn distance(rate: u64, pair: &Pair) -> u128 {
-    u128::from(CLOCK_HZ).abs_diff(u128::from(rate) * u128::from(pair.period))
+    u128::from(CLOCK_MILLIHERTZ).abs_diff(u128::from(rate) * u128::from(pair.period))
 }

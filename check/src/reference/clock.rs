@@ -1,6 +1,8 @@
 //! The clock and its dividers, the same for PWM and SPI.
 
 pub const CLOCK_HZ: u64 = 40_000_000;
+/// In millihertz, as rates are asked for.
+pub const CLOCK_MILLIHERTZ: u64 = 1_000 * CLOCK_HZ;
 
 /// Divider choices 1 to 7 name these in order.
 pub const DIVIDERS: [u64; 7] = [1, 2, 4, 8, 16, 32, 64];

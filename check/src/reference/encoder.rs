@@ -115,20 +115,31 @@ impl Encoder {
 
     #[inline]
     fn step_forward(&mut self) {
-        match self.count {
-            -1 => self.overflow(UOVR, UOERR),
-            i32::MAX => self.overflow(SOVR, SOERR),
-            _ => {}
-        }
         self.count = self.count.wrapping_add(1);
         self.stat &= !DIR;
+        self.pass_below(self.count);
     }
 
+    #[inline]
     fn step_back(&mut self) {
+        self.pass_below(self.count);
         self.count = self.count.wrapping_sub(1);
         self.stat |= DIR;
     }
 
+    /// A step up to this count, or down from it. The borders are below 0 and below the least number.
+    #[inline]
+    fn pass_below(&mut self, count: i32) {
+        match count {
+            0 => self.overflow(UOVR, UOERR),
+            i32::MIN => self.overflow(SOVR, SOERR),
+            _ => {}
+        }
+    }
+
+    // Out of line, where it costs a walk that never comes here nothing.
+    #[cold]
+    #[inline(never)]
     fn overflow(&mut self, first: u8, again: u8) {
         self.stat |= if self.stat & first == 0 { first } else { again };
     }

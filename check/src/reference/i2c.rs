@@ -1,7 +1,7 @@
 //! The I2C control sequencer.
 
 use super::refusal::{
-    check, Refusal, GO_NOT_ALLOWED, NOT_ROUTED, RECORD_UNKNOWN, VALUE_OUT_OF_RANGE,
+    check, Refusal, GO_NOT_ALLOWED, NOT_ROUTED, RECORD_UNKNOWN, STOP_AFTER_ACK, VALUE_OUT_OF_RANGE,
 };
 
 pub const ADDR: u8 = 0;
@@ -33,6 +33,8 @@ pub struct I2c {
     pub addr: u8,
     pub cntl: u8,
     pub state: State,
+    /// Whether the last received byte was acknowledged: false after a send and after a STOP.
+    pub acknowledged: bool,
 }
 
 impl I2c {
@@ -58,20 +60,35 @@ impl I2c {
         match register {
             ADDR => self.addr = value as u8,
             CNTL => self.cntl = value as u8,
-            _ => self.state = self.after_go().ok_or(GO_NOT_ALLOWED)?,
+            _ => self.go()?,
         }
         Ok(())
     }
 
-    /// The state that GO would end in, or nothing if the control code is not allowed.
-    pub fn after_go(&self) -> Option<State> {
-        let set = |bit| self.cntl & bit != 0;
+    fn go(&mut self) -> Result<(), Refusal> {
+        self.state = self.after_go()?;
+        // Only a byte that is received without STOP ends there.
+        self.acknowledged = self.state == State::RxIdle && self.set(ACK);
+        Ok(())
+    }
+
+    /// The state that GO would end in.
+    pub fn after_go(&self) -> Result<State, Refusal> {
+        let ends = self.after_code().ok_or(GO_NOT_ALLOWED)?;
+        let stops_alone = !self.set(TX_RX);
+        let must_not_stop = self.state == State::RxIdle && self.acknowledged;
+        check(!(stops_alone && must_not_stop), STOP_AFTER_ACK)?;
+        Ok(ends)
+    }
+
+    /// The same, or nothing if the control code is not allowed. Without TX/RX only STOP alone is.
+    fn after_code(&self) -> Option<State> {
         let receive = self.addr & RECEIVE != 0;
-        if !set(TX_RX) {
-            let stops = !set(START) && set(STOP) && self.state != State::Idle;
+        if !self.set(TX_RX) {
+            let stops = !self.set(START) && self.set(STOP) && self.state != State::Idle;
             return stops.then_some(State::Idle);
         }
-        if receive && set(ACK) && set(STOP) {
+        if receive && self.set(ACK) && self.set(STOP) {
             return None;
         }
         let addressed = if receive {
@@ -79,9 +96,17 @@ impl I2c {
         } else {
             State::TxIdle
         };
-        if !set(START) && self.state != addressed {
+        if !self.set(START) && self.state != addressed {
             return None;
         }
-        Some(if set(STOP) { State::Idle } else { addressed })
+        Some(if self.set(STOP) {
+            State::Idle
+        } else {
+            addressed
+        })
+    }
+
+    fn set(&self, bit: u8) -> bool {
+        self.cntl & bit != 0
     }
 }

@@ -1,16 +1,17 @@
-//! Rates: from registers, and the finder.
+//! Rates: from registers, and the finder, which is asked in millihertz.
 //!
 //! An SPI period is two counts of N(X+1) ticks, so SPI is PWM on half the clock, with the period
 //! doubled at the end.
 
-use super::clock::{divider, CLOCK_HZ};
+use super::clock::{divider, CLOCK_HZ, CLOCK_MILLIHERTZ};
 use super::refusal::{
     Refusal, NO_PAIR, RATE_OUT_OF_RANGE, REGISTERS_OUT_OF_RANGE, TOLERANCE_TOO_WIDE,
 };
 
-pub const LOWEST_RATE: u64 = 40;
-pub const HIGHEST_PWM_RATE: u64 = 40_000;
-pub const HIGHEST_SPI_RATE: u64 = 4_000_000;
+/// Wanted rates are in millihertz.
+pub const LOWEST_RATE: u64 = 40_000;
+pub const HIGHEST_PWM_RATE: u64 = 40_000_000;
+pub const HIGHEST_SPI_RATE: u64 = 4_000_000_000;
 pub const MILLION: u64 = 1_000_000;
 pub const X_MAX: u64 = 65_535;
 
@@ -77,13 +78,12 @@ fn find(kind: &Kind, rate: u64, tol: u64) -> Result<Pair, Refusal> {
     if tol > MILLION {
         return Err(TOLERANCE_TOO_WIDE);
     }
-    // The range leaves 22 bits: a 32-bit division is the quickest, and no product below is above
-    // the clock plus one step.
-    let (clock, rate) = ((CLOCK_HZ / kind.ticks) as u32, rate as u32);
+    // No product below is above a million times the clock plus one step, which 64 bits hold.
+    let clock = CLOCK_MILLIHERTZ / kind.ticks;
     let whole = clock / rate;
     let exact = whole * rate == clock;
 
-    let shift = finest_shift(whole + u32::from(!exact));
+    let shift = finest_shift(whole + u64::from(!exact));
     let step = rate << shift;
     let below = whole >> shift;
     let short = clock - step * below;
@@ -93,7 +93,7 @@ fn find(kind: &Kind, rate: u64, tol: u64) -> Result<Pair, Refusal> {
     } else {
         (below + 1, over)
     };
-    if MILLION * u64::from(gap) > tol * u64::from(step * counts) {
+    if MILLION * gap > tol * (step * counts) {
         return Err(NO_PAIR);
     }
 
@@ -103,11 +103,11 @@ fn find(kind: &Kind, rate: u64, tol: u64) -> Result<Pair, Refusal> {
     Ok(Pair {
         choice: shift as u8 + 1,
         x: ((units >> shift) - 1) as u16,
-        period: kind.ticks * u64::from(units),
+        period: kind.ticks * units,
     })
 }
 
 /// The least s for which 65,536 counts of 2^s reach `units`, which is not 0.
-fn finest_shift(units: u32) -> u32 {
-    u32::BITS - ((units - 1) >> 16).leading_zeros()
+fn finest_shift(units: u64) -> u32 {
+    u64::BITS - ((units - 1) >> 16).leading_zeros()
 }

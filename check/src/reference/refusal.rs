@@ -34,6 +34,10 @@ pub const TOLERANCE_TOO_WIDE: Refusal = 13;
 pub const NO_PAIR: Refusal = 14;
 /// The divider choice is 0 or above 7, or X is above 65,535.
 pub const REGISTERS_OUT_OF_RANGE: Refusal = 15;
+/// GO with STOP alone after a byte that was received and acknowledged.
+pub const STOP_AFTER_ACK: Refusal = 16;
+/// A transcript has another length than the readings.
+pub const TRANSCRIPT_LENGTH_WRONG: Refusal = 17;
 
 pub fn check(holds: bool, refusal: Refusal) -> Result<(), Refusal> {
     if holds {

@@ -1,7 +1,7 @@
 //! The families of logs that the library is asked for, and the way it is asked.
 
-use rivandoze_check::cases::{Size, FAMILIES};
-use rivandoze_check::exchange::{Answer, Request, PLACES};
+use rivandoze_check::cases::{Family, Size, FAMILIES};
+use rivandoze_check::exchange::{Answer, Call, Request, HEADER_LEN, PLACES};
 use rivandoze_check::packed;
 use rivandoze_check::reference::log::{records, RECORDS_MAX};
 use rivandoze_check::reference::record::{Fields, TICKS, TICKS_MAX};
@@ -15,7 +15,7 @@ fn short() -> impl Iterator<Item = Request> {
 }
 
 fn word(request: &Request) -> u64 {
-    packed::replay(&request.log, &mut vec![0; request.out_len])
+    request.right_answer().word
 }
 
 #[test]
@@ -32,13 +32,17 @@ fn a_seed_gives_the_same_requests_again() {
 fn every_refusal_and_every_place_comes_up() {
     let mut met = BTreeSet::new();
     for request in short() {
-        met.insert((word(&request) & 0xFF, request.place as u64));
+        let refusal = word(&request) & 0xFF;
+        met.insert((request.call as u64, refusal, request.place as u64));
     }
-    for refusal in 0..=11 {
+    let replayed = (0..=11).chain([16]);
+    let judged = (0..=5).chain(7..=11).chain([16, 17]);
+    let all = replayed.map(|refusal| (Call::Replay, refusal));
+    for (call, refusal) in all.chain(judged.map(|refusal| (Call::Judge, refusal))) {
         for place in PLACES {
             assert!(
-                met.contains(&(refusal, place as u64)),
-                "{refusal} {place:?}"
+                met.contains(&(call as u64, refusal, place as u64)),
+                "{call:?} {refusal} {place:?}"
             );
         }
     }
@@ -89,7 +93,7 @@ fn every_bit_of_a_record_is_turned() {
 #[test]
 fn outputs_are_enough_to_the_byte_or_one_byte_short() {
     let mut met = BTreeSet::new();
-    for request in short() {
+    for request in short().filter(|request| request.call == Call::Replay) {
         if let Ok(all) = records(&request.log) {
             let needed = 8 * all.filter(|record| record[0] == 2).count() as i64;
             met.insert(request.out_len as i64 - needed);
@@ -130,7 +134,8 @@ fn waits_of_every_length_come_up() {
 #[test]
 fn requests_and_answers_come_through() {
     let mut pipe = Vec::new();
-    let sent: Vec<Request> = FAMILIES[1].requests(6, Size::Short).take(40).collect();
+    let some = |family: &Family| family.requests(6, Size::Short).take(20);
+    let sent: Vec<Request> = FAMILIES.iter().flat_map(some).collect();
     for request in &sent {
         request.write_to(&mut pipe).expect("a vector takes all");
     }
@@ -140,7 +145,7 @@ fn requests_and_answers_come_through() {
         assert_eq!(taken.as_ref(), Some(&request));
         let answer = Answer {
             word: 0x1234_5608,
-            log_kept: request.out_len % 2 == 0,
+            kept: request.out_len % 2 == 0,
             area: request.area(),
         };
         let mut pipe = Vec::new();
@@ -149,6 +154,6 @@ fn requests_and_answers_come_through() {
         assert_eq!(back.expect("a whole answer"), answer);
     }
     assert_eq!(Request::read_from(&mut rest).expect("the end"), None);
-    let half = &pipe[..31];
+    let half = &pipe[..HEADER_LEN - 1];
     assert!(Request::read_from(&mut &*half).is_err());
 }

@@ -69,45 +69,130 @@ fn direction_is_that_of_the_last_counted_step() {
     assert_eq!(dir_after(0), 0);
 }
 
-#[test]
-fn unsigned_overflow_upward_only() {
-    let mut encoder = counting(EN, 2, -1);
-    encoder.pins(0);
-    assert_eq!((encoder.cntr(), encoder.stat), (0, UOVR));
-    encoder.pins(2);
-    assert_eq!((encoder.cntr(), encoder.stat), (4_294_967_295, UOVR | DIR));
-    encoder.pins(0);
-    assert_eq!((encoder.cntr(), encoder.stat), (0, UOVR | UOERR));
-
-    let mut down = counting(EN, 0, 0);
-    down.pins(2);
-    assert_eq!((down.cntr(), down.stat), (4_294_967_295, DIR));
+/// The four flags, and nothing else of STAT.
+fn overflows(encoder: &Encoder) -> u8 {
+    encoder.stat & (UOVR | SOVR | UOERR | SOERR)
 }
 
 #[test]
-fn signed_overflow_upward_only() {
-    let mut encoder = counting(EN, 2, i32::MAX);
-    encoder.pins(0);
-    assert_eq!((encoder.count, encoder.stat), (i32::MIN, SOVR));
-    encoder.pins(2);
-    assert_eq!((encoder.count, encoder.stat), (i32::MAX, SOVR | DIR));
-    encoder.pins(0);
-    assert_eq!((encoder.count, encoder.stat), (i32::MIN, SOVR | SOERR));
-    assert_eq!(encoder.cntr(), 0x8000_0000);
+fn unsigned_overflow_in_both_directions() {
+    let mut up = counting(EN, 2, -1);
+    up.pins(0);
+    assert_eq!((up.cntr(), up.stat), (0, UOVR));
+    up.pins(2);
+    assert_eq!((up.cntr(), up.stat), (4_294_967_295, UOVR | UOERR | DIR));
+
+    let mut down = counting(EN, 0, 0);
+    down.pins(2);
+    assert_eq!((down.cntr(), down.stat), (4_294_967_295, UOVR | DIR));
+    down.pins(0);
+    assert_eq!((down.cntr(), down.stat), (0, UOVR | UOERR));
+}
+
+#[test]
+fn signed_overflow_in_both_directions() {
+    let mut up = counting(EN, 2, i32::MAX);
+    up.pins(0);
+    assert_eq!((up.count, up.stat), (i32::MIN, SOVR));
+    assert_eq!(up.cntr(), 0x8000_0000);
+    up.pins(2);
+    assert_eq!((up.count, up.stat), (i32::MAX, SOVR | SOERR | DIR));
 
     let mut down = counting(EN, 0, i32::MIN);
     down.pins(2);
-    assert_eq!((down.count, down.stat), (i32::MAX, DIR));
+    assert_eq!((down.count, down.stat), (i32::MAX, SOVR | DIR));
+    down.pins(0);
+    assert_eq!((down.count, down.stat), (i32::MIN, SOVR | SOERR));
+}
+
+/// Pins that count one step, in quadrature or by step and direction, from pins of 0.
+const UP: u8 = 1;
+const DOWN_IN_QUADRATURE: u8 = 2;
+const DOWN_BY_DIRECTION: u8 = 3;
+
+#[test]
+fn a_step_overflows_at_the_borders_alone() {
+    let borders = [
+        (-1, UP, UOVR),
+        (i32::MAX, UP, SOVR),
+        (0, DOWN_IN_QUADRATURE, UOVR),
+        (i32::MIN, DOWN_IN_QUADRATURE, SOVR),
+    ];
+    let near = [
+        0,
+        1,
+        2,
+        -1,
+        -2,
+        -3,
+        i32::MAX,
+        i32::MAX - 1,
+        i32::MIN,
+        i32::MIN + 1,
+    ];
+    for count in near {
+        for pins in [UP, DOWN_IN_QUADRATURE] {
+            let mut encoder = counting(EN, 0, count);
+            encoder.pins(pins);
+            let border = borders
+                .iter()
+                .find(|border| (border.0, border.1) == (count, pins));
+            let wanted = border.map_or(0, |border| border.2);
+            assert_eq!(overflows(&encoder), wanted, "from {count} by pins {pins}");
+        }
+    }
+}
+
+/// The first flag stays, and it makes no difference which way it was set.
+#[test]
+fn again_in_any_direction() {
+    for (border, below, first, again) in [(0, -1, UOVR, UOERR), (i32::MIN, i32::MAX, SOVR, SOERR)] {
+        for (count, pins) in [(below, UP), (border, DOWN_IN_QUADRATURE)] {
+            let mut encoder = counting(EN, 0, count);
+            encoder.stat = first;
+            encoder.pins(pins);
+            assert_eq!(overflows(&encoder), first | again, "from {count}");
+        }
+        // The other border's flag is no first one.
+        let mut encoder = counting(EN, 0, border);
+        encoder.stat = (UOVR | SOVR) & !first;
+        encoder.pins(DOWN_IN_QUADRATURE);
+        assert_eq!(overflows(&encoder), UOVR | SOVR);
+    }
 }
 
 #[test]
 fn overflow_in_step_and_direction_too() {
-    let mut encoder = counting(EN | MODE, 0, -1);
-    encoder.pins(1);
-    assert_eq!((encoder.count, encoder.stat), (0, UOVR));
-    let mut encoder = counting(EN | MODE, 0, i32::MAX);
-    encoder.pins(1);
-    assert_eq!((encoder.count, encoder.stat), (i32::MIN, SOVR));
+    for (count, pins, flag) in [
+        (-1, UP, UOVR),
+        (i32::MAX, UP, SOVR),
+        (0, DOWN_BY_DIRECTION, UOVR),
+        (i32::MIN, DOWN_BY_DIRECTION, SOVR),
+    ] {
+        let mut encoder = counting(EN | MODE, 0, count);
+        encoder.pins(pins);
+        assert_eq!(overflows(&encoder), flag, "from {count}");
+    }
+}
+
+#[test]
+fn homed_below_zero() {
+    let text = "write select 0xA
+        write encoder 0 cnfg 1
+        pins encoder 0 0
+        pins encoder 0 2            # from 0 down: UOVR, and DIR
+        read encoder 0 cntr
+        read encoder 0 stat
+        pins encoder 0 3
+        read encoder 0 stat
+        pins encoder 0 2
+        pins encoder 0 0            # up to 0 again: UOERR
+        read encoder 0 stat
+        write encoder 0 cnfg 17     # COVR
+        read encoder 0 stat
+        pins encoder 0 2            # down once more
+        read encoder 0 stat";
+    assert_eq!(readings(text), [4_294_967_295, 5, 5, 20, 0, 5]);
 }
 
 #[test]
@@ -167,7 +252,7 @@ fn reset_clears_the_count_of_a_disabled_encoder() {
         write encoder 0 cnfg 2
         read encoder 0 cntr
         read encoder 0 stat";
-    assert_eq!(readings(text), [4_294_967_295, 0, 1]);
+    assert_eq!(readings(text), [4_294_967_295, 0, 5]);
 }
 
 #[test]
@@ -225,7 +310,7 @@ fn an_unrouted_encoder_keeps_everything_readable() {
         read encoder 0 cnfg
         read encoder 0 stat
         read encoder 0 cntr";
-    let kept = [1, 3, 4_294_967_295];
+    let kept = [1, 7, 4_294_967_295];
     assert_eq!(readings(text), [kept, kept].concat());
 }
 
@@ -252,7 +337,7 @@ fn err_survives_a_change_to_step_and_direction() {
         pins encoder 0 3            # counts down, sets no ERR of its own
         read encoder 0 cntr
         read encoder 0 stat";
-    assert_eq!(readings(text), [4_294_967_295, 3]);
+    assert_eq!(readings(text), [4_294_967_295, 7]);
 }
 
 #[test]

@@ -6,7 +6,7 @@ use rivandoze_check::reference::find_spi;
 #[test]
 fn nearest_in_frequency_not_in_period() {
     // X 4 is 10 ticks, X 5 is 12; 40,000,000 / 3,650,000 is 10.96, nearer to 10.
-    let x = find_spi(3_650_000, 1_000_000).map(|pair| pair.x);
+    let x = find_spi(3_650_000_000, 1_000_000).map(|pair| pair.x);
     assert_eq!(x, Ok(5));
 }
 
@@ -64,17 +64,15 @@ fn overflows_are_cleared_on_the_rise_of_covr_only() {
     let text = "write select 0xA
         write encoder 0 cnfg 17     # COVR is 1 from now on
         pins encoder 0 0
-        pins encoder 0 2
-        pins encoder 0 0            # up to 0: UOVR
+        pins encoder 0 2            # from 0 down: UOVR, and DIR
         read encoder 0 stat
-        write encoder 0 cnfg 17
+        write encoder 0 cnfg 17     # stays 1: clears nothing
         read encoder 0 stat
-        pins encoder 0 2
-        pins encoder 0 0            # again: UOERR
+        pins encoder 0 0            # up to 0, again: UOERR
         read encoder 0 stat
-        write encoder 0 cnfg 1
+        write encoder 0 cnfg 1      # falls: clears nothing
         read encoder 0 stat
-        write encoder 0 cnfg 17
+        write encoder 0 cnfg 17     # rises
         read encoder 0 stat";
-    assert_eq!(readings(text), [4, 4, 20, 20, 0]);
+    assert_eq!(readings(text), [5, 5, 20, 20, 0]);
 }

@@ -59,7 +59,7 @@ fn each_fault_is_refused_as_it_says() {
         }
     }
     let refusals: BTreeSet<u8> = FAULTS.iter().map(|fault| fault.refusal).collect();
-    assert_eq!(refusals.into_iter().collect::<Vec<u8>>(), [7, 8, 9, 10, 11]);
+    assert_eq!(refusals, BTreeSet::from([7, 8, 9, 10, 11, 16]));
 }
 
 #[test]
@@ -119,7 +119,8 @@ struct Met {
     counts: BTreeSet<i32>,
     dividers_stepping: BTreeSet<u8>,
     pwm_cnfg: BTreeSet<u8>,
-    i2c: BTreeSet<(u8, u8, u8)>,
+    /// State, what is recalled, R/S and code.
+    i2c: BTreeSet<(u8, bool, u8, u8)>,
     reads: BTreeSet<(u8, u8, u8)>,
     counter_above_top: bool,
     wrapped_at_max: BTreeSet<u16>,
@@ -164,7 +165,8 @@ impl Met {
         let written = (fields.kind == WRITE).then(|| fields.place());
         if written == Some((I2C, 0, i2c::GO)) {
             let i2c = &before.i2c;
-            self.i2c.insert((i2c.state as u8, i2c.addr & 1, i2c.cntl));
+            self.i2c
+                .insert((i2c.state as u8, i2c.acknowledged, i2c.addr & 1, i2c.cntl));
         }
         if written == Some((SELECT, 0, 0)) {
             let pairs = before.encoders.iter().zip(&after.encoders);
@@ -201,7 +203,8 @@ fn deep_states_are_reached() {
     }
     assert_eq!(met.dividers_stepping.len(), 7);
     assert_eq!(met.pwm_cnfg.into_iter().collect::<Vec<u8>>(), [0, 1, 4, 5]);
-    assert_eq!(met.i2c.len(), 36);
+    // All that is allowed after a byte that was not acknowledged, and in RX idle after one that was.
+    assert_eq!(met.i2c.len(), 36 + 10);
     assert_eq!(met.reads.len(), 1 + 10 * 3 + 20 * 6 + 3);
     assert!(met.counter_above_top);
     assert!(met.wrapped_at_max.contains(&0) || met.wrapped_at_max.contains(&1));

@@ -5,6 +5,7 @@ mod errors_seen;
 mod finder;
 mod generate;
 mod i2c;
+mod judge;
 mod packed;
 mod program;
 mod pwm;

@@ -16,11 +16,17 @@ fn replay_has_the_refusal_below_the_records_applied() {
 }
 
 #[test]
-fn a_pair_has_choice_and_x_in_their_places() {
-    assert_eq!(packed::find_pwm(40, 0), 5 << 8 | 62_499 << 16);
-    assert_eq!(packed::find_spi(4_000_000, 0), 1 << 8 | 4 << 16);
-    assert_eq!(packed::find_pwm(39, 0), 12);
-    assert_eq!(packed::find_spi(3_650_000, 86_757), 14);
+fn a_pair_has_choice_x_and_period_in_their_places() {
+    assert_eq!(
+        packed::find_pwm(40_000, 0),
+        5 << 8 | 62_499 << 16 | 1_000_000 << 32
+    );
+    assert_eq!(
+        packed::find_spi(4_000_000_000, 0),
+        1 << 8 | 4 << 16 | 10 << 32
+    );
+    assert_eq!(packed::find_pwm(39_999, 0), 12);
+    assert_eq!(packed::find_spi(3_650_000_000, 86_757), 14);
 }
 
 #[test]

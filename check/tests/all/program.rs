@@ -58,10 +58,43 @@ fn lengths_of_input() {
 }
 
 #[test]
+fn transcripts_are_made_and_judged() {
+    let text = "write select 10
+        write encoder 0 cnfg 1
+        pins encoder 0 0
+        pins encoder 0 1
+        read select
+        read encoder 0 cntr";
+    let counts = log(text);
+    let file = std::env::temp_dir().join(format!("transcript-{}", std::process::id()));
+    let judged = |transcript: &[u8], log: &[u8]| {
+        std::fs::write(&file, transcript).expect("a file for the transcript");
+        printed(&["judge", file.to_str().expect("a plain name")], log)
+    };
+    let right = program(&["transcript"], &counts).stdout;
+    let negated = program(&["transcript", "negated"], &counts).stdout;
+    assert_eq!(right, [10u64, 1].map(u64::to_le_bytes).concat());
+    assert_eq!(negated[8..], 0xFFFF_FFFFu64.to_le_bytes());
+    assert_eq!(judged(&right, &counts), "same\n");
+    assert_eq!(judged(&negated, &counts), "negated\n");
+    assert_eq!(judged(&right[8..], &counts), "refused 17\n");
+    assert_eq!(judged(&[0; 16], &counts), "different 0\n");
+    assert_eq!(judged(&[], &log("ticks 1")), "both\n");
+    assert_eq!(judged(&right, &counts[1..]), "refused 5\n");
+    std::fs::remove_file(&file).expect("the file is there");
+}
+
+#[test]
 fn rates() {
-    assert_eq!(printed(&["pwm", "610", "4"], b""), "choice 2 x 32786\n");
-    assert_eq!(printed(&["pwm", "610", "3"], b""), "refused 14\n");
-    assert_eq!(printed(&["spi", "3650000", "86758"], b""), "choice 1 x 5\n");
+    assert_eq!(
+        printed(&["pwm", "610000", "4"], b""),
+        "choice 2 x 32786 period 65574\n"
+    );
+    assert_eq!(printed(&["pwm", "610000", "3"], b""), "refused 14\n");
+    assert_eq!(
+        printed(&["spi", "3650000000", "86758"], b""),
+        "choice 1 x 5 period 12\n"
+    );
     assert_eq!(
         printed(&["pwm-rate", "1", "39999"], b""),
         "40000000 40000\n"

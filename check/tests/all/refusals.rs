@@ -463,47 +463,66 @@ fn refusal_11_by_the_state() {
     assert_eq!(run_text(&format!("{started}{again}")).refusal, 0);
 }
 
+/// The byte before it acknowledged or not: one bit of its CNTL.
+#[test]
+fn refusal_16_by_the_ack_of_the_byte_before() {
+    let text = |cntl: u8| {
+        format!(
+            "{ROUTED}write i2c addr 1
+            write i2c cntl {cntl}
+            write i2c go 1
+            write i2c cntl 4
+            write i2c go 1"
+        )
+    };
+    let [bad, good] = [0b1011, 0b0011].map(|cntl| log(&text(cntl)));
+    assert_eq!(bits_apart(&bad, &good), 1);
+    let (bad_run, good_run) = (run(&bad), run(&good));
+    assert_eq!((bad_run.refusal, bad_run.applied), (16, 5));
+    assert_eq!((good_run.refusal, good_run.applied), (0, 6));
+}
+
 // Rates: numbers, of which the edges are one unit, and often one bit, away.
 
 type Find = fn(u64, u64) -> Result<rivandoze_check::reference::Pair, u8>;
 const FINDERS: [(Find, u64); 4] = [
-    (find_pwm, 40_000),
-    (brute_pwm, 40_000),
-    (find_spi, 4_000_000),
-    (brute_spi, 4_000_000),
+    (find_pwm, 40_000_000),
+    (brute_pwm, 40_000_000),
+    (find_spi, 4_000_000_000),
+    (brute_spi, 4_000_000_000),
 ];
 
 #[test]
 fn refusal_12_at_both_ends() {
     for (find, highest) in FINDERS {
-        for good in [40, highest] {
+        for good in [40_000, highest] {
             assert!(find(good, 1_000_000).is_ok());
         }
-        // 40 without its bit 3, and the highest with bit 0, which was clear.
-        for bad in [0, 1, 39, 40 ^ 8, highest ^ 1, highest + 1, u64::MAX] {
+        // The lowest without its bit 6, and the highest with bit 0, which was clear.
+        for bad in [0, 40, 39_999, 40_000 ^ 64, highest ^ 1, u64::MAX] {
             assert_eq!(find(bad, 1_000_000), Err(12), "{bad}");
         }
+        assert_eq!(find(1 << 32 | 1_000_000, 0), Err(12));
     }
-    assert_eq!(find_pwm(1 << 32 | 1_000, 0), Err(12));
 }
 
 #[test]
 fn refusal_13_by_the_lowest_bit() {
     for (find, _) in FINDERS {
-        assert!(find(1_000, 1_000_000).is_ok());
-        assert_eq!(find(1_000, 1_000_000 ^ 1), Err(13));
-        assert_eq!(find(1_000, u64::MAX), Err(13));
+        assert!(find(1_000_000, 1_000_000).is_ok());
+        assert_eq!(find(1_000_000, 1_000_000 ^ 1), Err(13));
+        assert_eq!(find(1_000_000, u64::MAX), Err(13));
     }
 }
 
 #[test]
 fn refusal_14_by_one_unit_and_by_one_bit() {
-    assert_eq!(find_pwm(610, 3), Err(14));
-    assert!(find_pwm(610, 4).is_ok());
-    assert!(find_pwm(610, 3 ^ 4).is_ok());
-    assert_eq!(find_spi(3_650_000, 86_757), Err(14));
-    assert!(find_spi(3_650_000, 86_758).is_ok());
-    assert!(find_spi(3_650_000, 86_757 ^ 2).is_ok());
+    assert_eq!(find_pwm(610_000, 3), Err(14));
+    assert!(find_pwm(610_000, 4).is_ok());
+    assert!(find_pwm(610_000, 3 ^ 4).is_ok());
+    assert_eq!(find_spi(3_650_000_000, 86_757), Err(14));
+    assert!(find_spi(3_650_000_000, 86_758).is_ok());
+    assert!(find_spi(3_650_000_000, 86_757 ^ 2).is_ok());
 }
 
 #[test]
@@ -576,10 +595,10 @@ fn record_then_value_then_routing_then_the_rest() {
 #[test]
 fn rate_then_tolerance_then_pair() {
     for (find, highest) in FINDERS {
-        assert_eq!(find(39, 1_000_001), Err(12));
+        assert_eq!(find(39_999, 1_000_001), Err(12));
         assert_eq!(find(highest + 1, 1_000_001), Err(12));
-        assert_eq!(find(611, 1_000_001), Err(13));
-        assert_eq!(find(611, 0), Err(14));
+        assert_eq!(find(611_000, 1_000_001), Err(13));
+        assert_eq!(find(611_000, 0), Err(14));
     }
 }
 

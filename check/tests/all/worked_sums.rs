@@ -21,22 +21,31 @@ fn pair(choice: u8, x: u16, period: u64) -> Result<Pair, u8> {
 #[test]
 fn pwm_rates() {
     for find in [find_pwm, brute_pwm] {
-        assert_eq!(find(1_000, 0), pair(1, 39_999, 40_000));
-        assert_eq!(find(40, 0), pair(5, 62_499, 1_000_000));
-        assert_eq!(find(39, 0), Err(12));
-        assert_eq!(find(40_001, 0), Err(12));
-        assert_eq!(find(610, 3), Err(14));
-        assert_eq!(find(610, 4), pair(2, 32_786, 65_574));
+        assert_eq!(find(1_000_000, 0), pair(1, 39_999, 40_000));
+        assert_eq!(find(40_000, 0), pair(5, 62_499, 1_000_000));
+        assert_eq!(find(39_000, 0), Err(12));
+        assert_eq!(find(40_001_000, 0), Err(12));
+        assert_eq!(find(610_000, 3), Err(14));
+        assert_eq!(find(610_000, 4), pair(2, 32_786, 65_574));
     }
 }
 
 #[test]
 fn spi_rates() {
     for find in [find_spi, brute_spi] {
-        assert_eq!(find(4_000_000, 0), pair(1, 4, 10));
-        assert_eq!(find(40, 0), pair(4, 62_499, 1_000_000));
-        assert_eq!(find(3_650_000, 86_757), Err(14));
-        assert_eq!(find(3_650_000, 86_758), pair(1, 5, 12));
+        assert_eq!(find(4_000_000_000, 0), pair(1, 4, 10));
+        assert_eq!(find(40_000, 0), pair(4, 62_499, 1_000_000));
+        assert_eq!(find(3_650_000_000, 86_757), Err(14));
+        assert_eq!(find(3_650_000_000, 86_758), pair(1, 5, 12));
+    }
+}
+
+/// The period of 40.125 Hz is 996,884.7 ticks, and every sixteenth is one of N 16.
+#[test]
+fn the_rate_of_the_lock_in() {
+    for find in [find_pwm, brute_pwm] {
+        assert_eq!(find(40_125, 5), pair(5, 62_304, 996_880));
+        assert_eq!(find(40_125, 4), Err(14));
     }
 }
 
@@ -81,7 +90,8 @@ fn four_places_back() {
         pins encoder 0 0
         read encoder 0 cntr
         read encoder 0 stat";
-    assert_eq!(readings(text), [4_294_967_292, 1]);
+    // Below 0: DIR and UOVR.
+    assert_eq!(readings(text), [4_294_967_292, 5]);
 }
 
 #[test]

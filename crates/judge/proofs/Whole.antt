@@ -65,7 +65,11 @@ module _ (log : List ℕ) (room : ℕ) (enough : room ≡ 16_384) (x : Stop) (is
       by (stopped k) c = ap stopped (sym (number ∙ ap numberOf c))
 
   -- the log's refusal first, then 17
-  module _ (ts : List ℕ) (fits : Bool) (n : ℕ) (told : fits ≡ eqb (length ts) (8 * x .readings)) (e : n ≡ cond (eqb (x .refused) 0) (cond fits 0 17) (x .refused)) where
+  module _ (ts : List ℕ) (fits : Bool) (m n : ℕ) (told : fits ≡ eqb (length ts) (8 * x .readings)) (of-length : m ≡ cond fits 0 17)
+      (first : n ≡ cond (eqb (x .refused) 0) m (x .refused)) where
+    e : n ≡ cond (eqb (x .refused) 0) (cond fits 0 17) (x .refused)
+    e = first ∙ ap (λ (k : ℕ). cond (eqb (x .refused) 0) k (x .refused)) of-length
+
     pub refuses : (n ≡ 0 → ⊥) → Answer log ts (Refused n)
     refuses d = by (eqb (x .refused) 0) fits refl told e
       where
@@ -86,16 +90,16 @@ module _ (log : List ℕ) (room : ℕ) (enough : room ≡ 16_384) (x : Stop) (is
         by true false z f h = absurd (omega arith)
         by false f z g h = absurd (eqb-false (x .refused) 0 z (sym h ∙ o))
 
-    pub ready : (out out′ : List ℕ) → out′ ≡ written (replayOf log room) out → n ≡ 0 → (t : Trailer) (a m : ℕ) → t ≡ trailerOf log → t ≡ Found a m → Ready log a out′ ts
+    pub ready : (out out′ : List ℕ) → out′ ≡ written (replayOf log room) out → n ≡ 0 → (t : Trailer) (a c : ℕ) → t ≡ trailerOf log → t ≡ Found a c → Ready log a out′ ts
     unfolding outputOf over
-    ready out out′ wrote o t a m p q =
+    ready out out′ wrote o t a c p q =
         let k = accepts o in
         let out-is : out′ ≡ plain log ++ drop (length (plain log)) out =
         wrote ∙ ap (λ (j : ℕ). written (replayOf log j) out) enough ∙ ap (λ (r : Run Bank ℕ). written r out) (accepted log 16_384 (k .0)) in
         record {
-          records = m;
+          records = c;
           found = sym p ∙ q;
-          within = found-within log t a m p q;
+          within = found-within log t a c p q;
           accepted = k .0;
           wrote = rw out-is (take-append-seam (plain log) (drop (length (plain log)) out));
           long = k .1;

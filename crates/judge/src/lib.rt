@@ -94,13 +94,19 @@ fn compare(log: &[u8], start: usize, out: &[u8], transcript: &[u8]) -> Verdict
     }
 }
 
-// The log's refusal first, then 17; 0 for none.
-fn refusal(log: u8, fits: bool) -> u8
-    ensures { λ r. ⌜ r ≡ cond (eqb log 0) (cond fits 0 17) log ⌝ }
+// The first of two refusals, where 0 is none.
+fn first_of(a: u8, b: u8) -> u8
+    ensures { λ r. ⌜ r ≡ cond (eqb a 0) b a ⌝ }
 {
-    if log != 0 {
-        return log;
+    if a != 0 {
+        return a;
     }
+    b
+}
+
+fn of_length(fits: bool) -> u8
+    ensures { λ r. ⌜ r ≡ cond fits 0 17 ⌝ }
+{
     if fits {
         return 0;
     }
@@ -112,7 +118,8 @@ pub fn judge(log: &[u8], transcript: &[u8]) -> Verdict
 {
     let mut out = [0u8; 16384];
     let stop = replay::replay(log, &mut out);
-    let number = refusal(stop.refused, transcript.len() == 8 * stop.readings);
+    let fits = transcript.len() == 8 * stop.readings;
+    let number = first_of(stop.refused, of_length(fits));
     if number != 0 {
         return Verdict::Refused(number);
     }

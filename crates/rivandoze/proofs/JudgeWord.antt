@@ -1,7 +1,8 @@
 -- The parts of a verdict's number fit their places, and there is one such number. Assumes nothing.
 use mathlib.Core.Path.{_≡_, sym, ap, _∙_}
 use mathlib.Core.List.{List}
-use Prim.Native.Nat.{ℕ, _+_, _*_, _/_, _%_, _^_, _<_}
+use Prim.Native.Nat.{ℕ, _+_, _*_, _/_, _%_, _^_, _≤_, _<_}
+use native.Mathlib.Nat.{mul-le-mul-right}
 use native.Mathlib.Omega.{arith}
 use mir.Syntax.{w64}
 use mir.Val.{Fits}
@@ -32,11 +33,11 @@ module _ (r : Verdict) (i : ℕ) (e : r ≡ Different i) (h : verdictNumbers r .
   small : i < 2048
   small = rw e at h
 
-  pub index-place : Fits w64 (65_536 * i)
-  index-place = record { fits = omega (arith, small) }
+  pub index-place : (a : ℕ) → a ≤ 65_536 → Fits w64 (a * i)
+  index-place a l = record { fits = omega (arith, small, mul-le-mul-right i l) }
 
-  pub index-beside : Fits w64 (1_024 + 65_536 * i)
-  index-beside = record { fits = omega (arith, small) }
+  pub index-beside : (a b : ℕ) → a ≤ 65_536 → b ≤ 65_536 → Fits w64 (b + a * i)
+  index-beside a b l k = record { fits = omega (arith, small, mul-le-mul-right i l) }
 
   pub index-part : judgedIn (1_024 + 65_536 * i) ≡ verdictNumbers r
   index-part = rw e (parts (1_024 + 65_536 * i) 0 4 i (omega arith) (omega arith) (omega arith))

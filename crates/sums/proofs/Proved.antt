@@ -11,6 +11,7 @@ use Rattle.rate.proofs.Proved.{thousandfold-pwm, thousandfold-spi}
 use Rattle.encoder.specs.Encoder.{statOf}
 use Rattle.pwm.specs.Pwm.{ticked, waited}
 use Rattle.sums.specs.Paper.{RateSums, PaperSums}
+use Rattle.sums.specs.Ours.{OurSums}
 
 in-hertz : RateSums 1 hertzPwm hertzSpi
 in-hertz = record {
@@ -64,3 +65,7 @@ paper-sums = record {
   ticks-1 = (refl, refl);
   ticks-2 = (refl, refl);
 }
+
+pub our-sums : OurSums
+unfolding statOf
+our-sums = record { down = refl; down-and-up = refl; signed-down = refl }

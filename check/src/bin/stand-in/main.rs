@@ -1,14 +1,15 @@
-//! A driver that replays by the reference with one mistake, or with none: what the comparison must
+//! A driver that answers by the reference with one mistake, or with none: what the comparison must
 //! see, and what it must not.
 //!
 //! `stand-in list` names the mistakes, `stand-in MISTAKE` makes one, `stand-in none` makes none.
 
+mod judge;
 mod mistakes;
 mod replay;
 mod waits;
 
 use mistakes::{Mistake, MISTAKES};
-use rivandoze_check::exchange::{Answer, Request};
+use rivandoze_check::exchange::{Answer, Call, Request};
 use std::io;
 use std::process::ExitCode;
 
@@ -49,7 +50,10 @@ fn answer_all(mistake: Option<Mistake>) -> io::Result<()> {
 
 fn answer(request: &Request, mistake: Option<Mistake>) -> Answer {
     let mut area = request.area();
-    let word = replay::replay(mistake, &request.log, area.out());
+    let word = match request.call {
+        Call::Replay => replay::replay(mistake, &request.log, area.out()),
+        Call::Judge => judge::judge(mistake, &request.log, &request.beside),
+    };
     let touched = match mistake {
         Some(Mistake::ByteBehindOutput) => area.guard_behind(),
         Some(Mistake::ByteBeforeOutput) => area.guard_before(),
@@ -58,9 +62,10 @@ fn answer(request: &Request, mistake: Option<Mistake>) -> Answer {
     if let Some(byte) = touched {
         *byte ^= 1;
     }
-    Answer {
-        word,
-        log_kept: mistake != Some(Mistake::LogChanged),
-        area,
-    }
+    let kept = match mistake {
+        Some(Mistake::LogChanged) => request.call != Call::Replay,
+        Some(Mistake::TranscriptChanged) => request.call != Call::Judge,
+        _ => true,
+    };
+    Answer { word, kept, area }
 }

@@ -1,4 +1,5 @@
 -- `rivandoze::judges::verdict_word` meets its contract. Assumes nothing.
+use lib.Dec.{lit≤}
 use borrow.Author.Needs.{needs}
 use Rattle.rivandoze.proofs.JudgeWord.{index-place, index-beside, index-part, refused-part}
 use Rattle.rivandoze.proofs.judges.verdict_word.Statement.{statement}
@@ -14,8 +15,8 @@ verdict-word-spec =
     (λ c. search needs)
     (λ c. search needs)
     (λ c. search needs)
-    (λ c. search index-place)
-    (λ c. search index-beside)
+    (λ c. search (index-place, lit≤))
+    (λ c. search (index-beside, lit≤))
     (λ c. search needs)
     (λ c. search needs)
     (λ c. search needs)
