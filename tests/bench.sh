@@ -1,22 +1,23 @@
 #!/usr/bin/env bash
 # The benchmark builds, finds the same answers on both sides, and tells for each row four figures and two ratios. The times are no test.
-# The instructions are, on both sides: beside a second program that had grown slow, any library would look quick.
+# The instructions are, on each side by itself: the library's are the same on every machine, since the kit compiles it, and the second
+# program's go by the machine's Rust compiler, so that a ratio does too.
 set -u
 cd "$(dirname "$0")/.." || exit 2
 . check/tools.sh
 work=$(mktemp -d)
 trap 'rm -rf "$work"' EXIT
 
-# A row, the most instructions that the second program may take, and the most times as many that the library may.
-limits='pins of one encoder|100|1.00
-pins of ten encoders|100|1.00
-reads|70|1.05
-a mix, waits to 20 ticks|100|1.00
-a mix, waits of any length|100|1.00
-waits only, 20 PWM channels|900|1.30
-reads, judged|75|1.30
-a mix, waits to 20 ticks, judged|100|1.30
-the finder, a request|80|1.00'
+# A row, the most instructions that the second program may take, and the most that the library may.
+limits='pins of one encoder|100|74
+pins of ten encoders|100|74
+reads|70|52
+a mix, waits to 20 ticks|100|83
+a mix, waits of any length|100|84
+waits only, 20 PWM channels|900|845
+reads, judged|75|67
+a mix, waits to 20 ticks, judged|100|88
+the finder, a request|80|58'
 
 # The mix again: the most times as many instructions of the library when it is judged as when it is replayed.
 judged_by_replayed=1.30
@@ -39,12 +40,12 @@ instructions() {
 
 must 'bench: the benchmark builds, and finds the same answers on both sides' check/bench.sh 2
 sed 's/^/    /' "$work/out"
-while IFS='|' read -r row instructions times_as_many; do
+while IFS='|' read -r row second_most library_most; do
     line=$(grep -E "^$row( +[0-9]+\.[0-9]+){6}\$" "$work/out")
     same "bench: four figures and two ratios for $row" 1 "$(grep -c . <<<"$line")"
-    read -r _ _ _ _ second ratio <<<"${line#"$row"}"
-    at_most "bench: instructions of the second program for $row" "$instructions" "${second:-}"
-    at_most "bench: times as many of the library for $row" "$times_as_many" "${ratio:-}"
+    read -r _ _ _ library second _ <<<"${line#"$row"}"
+    at_most "bench: instructions of the second program for $row" "$second_most" "${second:-}"
+    at_most "bench: instructions of the library for $row" "$library_most" "${library:-}"
 done <<<"$limits"
 mix='a mix, waits to 20 ticks'
 at_most "bench: times as many of the library for $mix, when judged as when replayed" $judged_by_replayed \

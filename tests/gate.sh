@@ -75,3 +75,13 @@ expect 1 "$red" 'a test that fails'
 plant
 printf '#!/bin/sh\nexit 0\n' >tests/planted.sh
 expect 1 "$red" 'a test script that runs no test'
+
+plant
+printf '#!/bin/sh\nsleep 1\necho ok beside\n' >tests/archive.sh
+chmod +x tests/archive.sh
+expect 0 '^5 passed, 0 failed$' 'what runs beside the other tests is waited for and counted'
+
+plant
+printf '#!/bin/sh\nsleep 1\necho ok beside\nexit 3\n' >tests/archive.sh
+chmod +x tests/archive.sh
+expect 1 "$red" 'what ends badly beside the other tests'

@@ -45,8 +45,10 @@ module _ (v : ℕ) (e r : Encoder) (n : ℤ) (s : ℕ) (small : mag (e .count) <
       → n ≡ wrap (held (e .count) +ℤ cond back (negsuc 0) (pos 1)) → s ≡ marked back 1 (e .stat) → r ≡ counted back v e
   step-between back not-unsigned not-signed next stat =
       step back next
-      (rw (ne-eqb (pattern (e .count)) (cond back 0 4294967295) (λ h. not-unsigned (bits-are (e .count) small ∙ h)),
-        ne-eqb (pattern (e .count)) (cond back 2147483648 2147483647) (λ h. not-signed (bits-are (e .count) small ∙ h)))
+      (rw (
+        ne-eqb (pattern (e .count)) (cond back 0 4294967295) (λ h. not-unsigned (bits-are (e .count) small ∙ h)),
+        ne-eqb (pattern (e .count)) (cond back 2147483648 2147483647) (λ h. not-signed (bits-are (e .count) small ∙ h)),
+      )
       (stat ∙ plain back (e .stat)))
 
 -- ---- MODE 0

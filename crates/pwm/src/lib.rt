@@ -119,7 +119,8 @@ impl Pwm {
         if mode(self.registers.cnfg) {
             return self.in_mode_1(s, r);
         }
-        self.moved(wrapping_add_u16(self.wave.counter, (s % 65536) as u16), r, self.wave.output)
+        let end = wrapping_add_u16(self.wave.counter, (s % 65536) as u16);
+        self.moved(end, r, self.wave.output)
     }
 
     // A record of t ticks. CS 1 to 7 have the places 0 to 6 in the divider table; CS 0 wraps to none. N is two to the power of its place
