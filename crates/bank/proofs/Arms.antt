@@ -3,11 +3,12 @@
 use mathlib.Core.Path.{_≡_, refl, sym, _∙_}
 use mathlib.Core.Bool.{Bool, true, false, cond}
 use Prim.Native.Nat.{ℕ}
+use borrow.Author.Tests.{ne-eqb}
 use Rattle.laws.proofs.Cases.{taken, left, arm}
 use Rattle.wire.specs.declared.Record.{Record}
 use Rattle.i2c.specs.declared.I2c.{I2c}
 use Rattle.i2c.specs.I2c.{allowed, forbidden, code}
-use Rattle.bank.specs.How.{unrouted, goRefusal, refusalOf}
+use Rattle.bank.specs.How.{unrouted, goRefusal, i2cRefusal, refusalOf}
 
 module _ (select : ℕ) (c : I2c) (x y : Record) (o : ℕ) (e : x ≡ y) where
   pub refusal-arm : o ≡ refusalOf select c y → o ≡ refusalOf select c x
@@ -18,19 +19,33 @@ module _ (select : ℕ) (c : I2c) (x y : Record) (o : ℕ) (e : x ≡ y) where
     pub refusal-routed : refusalOf select c y ≡ unrouted routed → o ≡ unrouted b → o ≡ refusalOf select c x
     refusal-routed d q = refusal-arm (rw (d, ← p) q)
 
-    pub refusal-go : refusalOf select c y ≡ goRefusal routed c → o ≡ goRefusal b c → o ≡ refusalOf select c x
-    refusal-go d q = refusal-arm (rw (d, ← p) q)
+    pub refusal-i2c : (g : ℕ) → refusalOf select c y ≡ i2cRefusal routed g c → o ≡ i2cRefusal b g c → o ≡ refusalOf select c x
+    refusal-i2c g d q = refusal-arm (rw (d, ← p) q)
 
-module _ (routed b : Bool) (c : I2c) (r : routed ≡ true) (e : b ≡ allowed (c .phase) (code c)) where
-  pub go-stops : b ≡ false → 11 ≡ goRefusal routed c
-  go-stops h = rw (r, ← e, h)
+module _ (b : Bool) (c : I2c) (e : b ≡ allowed (c .phase) (code c)) where
+  pub go-stops : b ≡ false → 11 ≡ goRefusal c
+  go-stops h = rw (← e, h)
 
   module _ (h : b ≡ true) (f : Bool) (g : f ≡ forbidden (c .phase) (c .acknowledged) (code c)) where
-    pub go-passes : f ≡ false → 0 ≡ goRefusal routed c
-    go-passes k = rw (r, ← e, h, ← g, k)
+    pub go-passes : f ≡ false → 0 ≡ goRefusal c
+    go-passes k = rw (← e, h, ← g, k)
 
-    pub go-barred : f ≡ true → 16 ≡ goRefusal routed c
-    go-barred k = rw (r, ← e, h, ← g, k)
+    pub go-barred : f ≡ true → 16 ≡ goRefusal c
+    go-barred k = rw (← e, h, ← g, k)
+
+-- a write to the I2C, by its register, where it is routed
+module _ (routed : Bool) (register : ℕ) (c : I2c) (r : routed ≡ true) where
+  pub i2c-addr : register ≡ 0 → 0 ≡ i2cRefusal routed register c
+  i2c-addr e = rw (r, e)
+
+  pub i2c-cntl : register ≡ 1 → 0 ≡ i2cRefusal routed register c
+  i2c-cntl e = rw (r, e)
+
+  pub i2c-go : (n : ℕ) → (register ≡ 0 → ⊥) → (register ≡ 1 → ⊥) → n ≡ goRefusal c → n ≡ i2cRefusal routed register c
+  i2c-go n d f e = rw (r, ne-eqb register 0 d, ne-eqb register 1 f) e
+
+pub i2c-unrouted : (routed : Bool) (register : ℕ) (c : I2c) → routed ≡ false → 9 ≡ i2cRefusal routed register c
+i2c-unrouted routed register c r = rw r
 
 -- a number by a test, as it was found
 pub by-test : (b t : Bool) (n m k : ℕ) → b ≡ t → b ≡ true → k ≡ n → k ≡ cond t n m

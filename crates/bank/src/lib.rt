@@ -5,7 +5,7 @@ use pwm::Pwm;
 use wire::Record;
 ghost use mathlib.Core.Path.{_≡_};
 ghost use Rattle.bank.specs.Bank.{fresh, reroute};
-ghost use Rattle.bank.specs.How.{unrouted, selectRefusal, goRefusal, refusalOf};
+ghost use Rattle.bank.specs.How.{unrouted, selectRefusal, goRefusal, i2cRefusal, refusalOf};
 
 pub struct Bank {
     pub select: u64,
@@ -41,17 +41,29 @@ fn select_refusal(v: u64) -> u8
     if select::allowed(v) { 0 } else { 10 }
 }
 
-fn go_refusal(routed: bool, c: I2c) -> u8
-    ensures { λ r. ⌜ r ≡ goRefusal routed c ⌝ }
+fn go_refusal(c: I2c) -> u8
+    ensures { λ r. ⌜ r ≡ goRefusal c ⌝ }
+{
+    if c.permits() {
+        if c.forbids() {
+            return 16;
+        }
+        return 0;
+    }
+    11
+}
+
+fn i2c_refusal(routed: bool, register: u64, c: I2c) -> u8
+    ensures { λ r. ⌜ r ≡ i2cRefusal routed register c ⌝ }
 {
     if routed {
-        if c.permits() {
-            if c.forbids() {
-                return 16;
-            }
+        if register == 0 {
             return 0;
         }
-        return 11;
+        if register == 1 {
+            return 0;
+        }
+        return go_refusal(c);
     }
     9
 }
@@ -64,13 +76,14 @@ pub fn refusal(select: u64, c: I2c, r: Record) -> u8
         Record::WriteEncoder { channel, value: _ } => {
             unrouted(select::encoder_routed(select, channel))
         }
-        Record::WriteCnfg { channel, value: _ } => unrouted(select::pwm_routed(select, channel)),
-        Record::WriteCs { channel, value: _ } => unrouted(select::pwm_routed(select, channel)),
-        Record::WriteMax { channel, value: _ } => unrouted(select::pwm_routed(select, channel)),
-        Record::WriteCmp { channel, value: _ } => unrouted(select::pwm_routed(select, channel)),
-        Record::WriteAddr(_) => unrouted(select::i2c_routed(select)),
-        Record::WriteCntl(_) => unrouted(select::i2c_routed(select)),
-        Record::Go => go_refusal(select::i2c_routed(select), c),
+        Record::WritePwm {
+            channel,
+            register: _,
+            value: _,
+        } => unrouted(select::pwm_routed(select, channel)),
+        Record::WriteI2c { register, value: _ } => {
+            i2c_refusal(select::i2c_routed(select), register, c)
+        }
         Record::ReadSelect => 0,
         Record::ReadEncoder {
             channel: _,

@@ -64,6 +64,10 @@ ran c = record { addr = c .addr; cntl = c .cntl; phase = ended (code c); acknowl
 abbrev pub goTurn : I2c → Turn I2c ℕ
 goTurn c = cond (allowed (c .phase) (code c)) (cond (forbidden (c .phase) (c .acknowledged) (code c)) (refused 16) (goes (ran c))) (refused 11)
 
+-- a write: "0 ADDR rw, 1 CNTL rw, 2 GO w"
+abbrev pub writeTurn : ℕ → ℕ → I2c → Turn I2c ℕ
+writeTurn register v c = cond (eqb register 0) (goes (onAddr v c)) (cond (eqb register 1) (goes (onCntl v c)) (goTurn c))
+
 -- ---- what is read: "0 ADDR, 1 CNTL, .. 3 state"
 
 abbrev pub registerOf : ℕ → I2c → ℕ

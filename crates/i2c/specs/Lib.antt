@@ -1,2 +1,3 @@
 pub mod I2c
+pub mod How
 pub mod Facts

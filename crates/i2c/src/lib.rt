@@ -3,6 +3,7 @@ ghost use mathlib.Core.Path.{_≡_};
 ghost use mathlib.Core.Bool.{cond};
 ghost use lib.Dec.{ltb, eqb};
 ghost use Rattle.i2c.specs.I2c.{codeOf, code, stateOf, allowed, forbidden, ended, recalled, onAddr, onCntl, ran, registerOf, fresh};
+ghost use Rattle.i2c.specs.How.{written};
 
 pub enum Phase {
     Idle,
@@ -112,7 +113,7 @@ impl I2c {
         }
     }
 
-    pub fn write_addr(self, v: u8) -> I2c
+    fn write_addr(self, v: u8) -> I2c
         ensures { λ r. ⌜ r ≡ onAddr v self ⌝ }
     {
         let phase = self.phase;
@@ -124,7 +125,7 @@ impl I2c {
         }
     }
 
-    pub fn write_cntl(self, v: u8) -> I2c
+    fn write_cntl(self, v: u8) -> I2c
         ensures { λ r. ⌜ r ≡ onCntl v self ⌝ }
     {
         let phase = self.phase;
@@ -153,7 +154,7 @@ impl I2c {
     }
 
     // A GO that is not refused.
-    pub fn go(self) -> I2c
+    fn go(self) -> I2c
         ensures { λ r. ⌜ r ≡ ran self ⌝ }
     {
         let code = Code::of(self.addr, self.cntl);
@@ -163,6 +164,19 @@ impl I2c {
             phase: ended(code),
             acknowledged: recalled(code),
         }
+    }
+
+    // A write of ADDR, CNTL or GO, which are 0 to 2, that is not refused.
+    pub fn write(self, register: u64, v: u8) -> I2c
+        ensures { λ r. ⌜ r ≡ written register v self ⌝ }
+    {
+        if register == 0 {
+            return self.write_addr(v);
+        }
+        if register == 1 {
+            return self.write_cntl(v);
+        }
+        self.go()
     }
 
     fn state(self) -> u8

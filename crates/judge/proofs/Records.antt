@@ -12,7 +12,7 @@ use Rattle.fold.specs.Turn.{Turn, reads, applies, answers}
 use Rattle.wire.specs.Bytes.{byte, asks}
 use Rattle.wire.specs.Record.{decodeOf}
 use Rattle.wire.specs.declared.Record.{Record}
-use Rattle.wire.specs.declared.Record.the-variants.{WriteSelect, WriteEncoder, WriteCnfg, WriteCs, WriteMax, WriteCmp, WriteAddr, WriteCntl, Go, ReadSelect, ReadEncoder, ReadPwm, ReadI2c, Pins, Ticks}
+use Rattle.wire.specs.declared.Record.the-variants.{WriteSelect, WriteEncoder, WritePwm, WriteI2c, ReadSelect, ReadEncoder, ReadPwm, ReadI2c, Pins, Ticks}
 use Rattle.wire.specs.declared.Decoded.{Decoded}
 use Rattle.wire.specs.declared.Decoded.the-variants.{Names, Refused}
 use Rattle.wire.proofs.Formed.{Formed, formed}
@@ -55,13 +55,8 @@ cntr-small b s v c = by (decodeOf s) refl
     named : (r : Record) → Formed s r → bank.turnOf b r ≡ reads v → v < 2 ^ 32
     named (WriteSelect w) f e = no-read (WriteSelect w) refl e
     named (WriteEncoder i w) f e = no-read (WriteEncoder i w) refl e
-    named (WriteCnfg i w) f e = no-read (WriteCnfg i w) refl e
-    named (WriteCs i w) f e = no-read (WriteCs i w) refl e
-    named (WriteMax i w) f e = no-read (WriteMax i w) refl e
-    named (WriteCmp i w) f e = no-read (WriteCmp i w) refl e
-    named (WriteAddr w) f e = no-read (WriteAddr w) refl e
-    named (WriteCntl w) f e = no-read (WriteCntl w) refl e
-    named Go f e = no-read Go refl e
+    named (WritePwm i g w) f e = no-read (WritePwm i g w) refl e
+    named (WriteI2c g w) f e = no-read (WriteI2c g w) refl e
     named (Pins i w) f e = no-read (Pins i w) refl e
     named (Ticks t) f e = no-read (Ticks t) refl e
     named ReadSelect f e = other 0 (f .is-block) (λ z. omega arith)

@@ -2,7 +2,7 @@
 -- Assumes nothing.
 use mathlib.Core.Path.{_≡_, refl, ap, _∙_}
 use mathlib.Core.Bool.{Bool, true, false, cond, _&&_, and-false}
-use Prim.Native.Nat.{ℕ, zero, suc, _+_, _<_}
+use Prim.Native.Nat.{ℕ, zero, suc, _+_, _-_, _<_, _≤_}
 use native.Mathlib.Omega.{arith}
 use lib.Dec.{ltb, eqb}
 use borrow.Author.Tests.{ltb-true}
@@ -10,7 +10,7 @@ use Rattle.divider.specs.Divider.{dividerOf}
 use Rattle.pwm.specs.declared.Registers.{Registers}
 use Rattle.pwm.specs.declared.Wave.{Wave}
 use Rattle.pwm.specs.declared.Pwm.{Pwm}
-use Rattle.pwm.specs.Pwm.{stepped, ticked, waited}
+use Rattle.pwm.specs.Pwm.{mode, stepped, ticked, waited}
 use Rattle.pwm.specs.How.{at, moved}
 use Rattle.pwm.specs.Facts.{Always, Quiet, Short}
 
@@ -29,16 +29,27 @@ module _ (g : Registers) (Holds : Wave → Type 0)
   kept zero w h = h
   kept (suc t) w h = tick (waited t g w) (kept t w h) (eqb (dividerOf (g .cs)) 0) _ refl
 
+-- a write of CNFG, or of another register
+quiet-write : (b : Bool) (v : ℕ) (o : Bool) (old : ℕ) → (mode old ≡ false → o ≡ false)
+    → mode (cond b v old) ≡ false → cond b (o && mode v) o ≡ false
+quiet-write true v o old h m = ap (λ (b : Bool). o && b) m ∙ and-false o
+quiet-write false v o old h m = h m
+
+-- a write of CS, or of another register
+short-write : (b : Bool) (v r old : ℕ) → r ≤ dividerOf old - 1 → cond b 0 r ≤ dividerOf (cond b v old) - 1
+short-write true v r old h = omega arith
+short-write false v r old h = h
+
 pub quiet : Always Quiet
 quiet = record {
   first = λ m. refl;
-  writes = λ v p h. (λ m. ap (λ (b : Bool). p .wave .output && b) m ∙ and-false (p .wave .output), h, h, h);
+  writes = λ g v p h. quiet-write (eqb g 0) v (p .wave .output) (p .registers .cnfg) h;
   ticks = λ t p h. kept (p .registers) (λ (w : Wave). Quiet (moved p w)) (λ w k l. k) (λ w k m. rw m (k m)) t (p .wave) h;
 }
 
 pub short : Always Short
 short = record {
   first = omega arith;
-  writes = λ v p h. (h, omega arith, h, h);
+  writes = λ g v p h. short-write (eqb g 1) v (p .wave .remainder) (p .registers .cs) h;
   ticks = λ t p h. kept (p .registers) (λ (w : Wave). Short (moved p w)) (λ w k l. omega arith) (λ w k. omega arith) t (p .wave) h;
 }

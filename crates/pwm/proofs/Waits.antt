@@ -64,14 +64,14 @@ module _ (g : Registers) (n : ℕ) (divides : n ≡ dividerOf (g .cs)) (on : 0 <
 -- ---- what the code makes of t ticks
 
 -- CS 0, whose place wraps, and what lies above 7
-pub off : (q : Pwm) (place t : ℕ) → (place + 1) % 2 ^ 8 ≡ q .registers .cs → place < 2 ^ 8 → 6 < place → q ≡ onTicks t q
+pub off : (q : Pwm) (place t : ℕ) → (place + 1) % 2 ^ 16 ≡ q .registers .cs → place < 2 ^ 16 → 6 < place → q ≡ onTicks t q
 off q place t e h k = ap (moved q) (sym (waited-off t (q .registers) (q .wave) (by (decLe 1 (q .registers .cs)))))
   where
     by : Dec (1 ≤ q .registers .cs) → dividerOf (q .registers .cs) ≡ 0
     by (yes l) = rw (le-ltb (q .registers .cs) 1 l, lt-ltb 7 (q .registers .cs) (omega arith))
     by (no l) = rw (lt-ltb (q .registers .cs) 1 (omega arith))
 
-module _ (q : Pwm) (place t : ℕ) (on : place ≤ 6) (e : (place + 1) % 2 ^ 8 ≡ q .registers .cs) (short : Short q) (h : t < 2 ^ 32) where
+module _ (q : Pwm) (place t : ℕ) (on : place ≤ 6) (e : (place + 1) % 2 ^ 16 ≡ q .registers .cs) (short : Short q) (h : t < 2 ^ 32) where
   abbrev m : ℕ
   m = q .wave .remainder + t
 

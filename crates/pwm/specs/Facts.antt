@@ -5,12 +5,12 @@ use mathlib.Core.Path.{_≡_}
 use mathlib.Core.Bool.{true, false}
 use Rattle.divider.specs.Divider.{dividerOf}
 use Rattle.pwm.specs.declared.Pwm.{Pwm}
-use Rattle.pwm.specs.Pwm.{mode, onTicks, onCnfg, onCs, onMax, onCmp, fresh}
+use Rattle.pwm.specs.Pwm.{mode, onTicks, onWrite, fresh}
 
 -- what holds of a fresh channel, and after every write and every wait of a channel of which it holds
 pub record Always (Holds : Pwm → Type 0) : Type 0 where
   pub first : Holds fresh
-  pub writes : (v : ℕ) (p : Pwm) → Holds p → Holds (onCnfg v p) × Holds (onCs v p) × Holds (onMax v p) × Holds (onCmp v p)
+  pub writes : (register v : ℕ) (p : Pwm) → Holds p → Holds (onWrite register v p)
   pub ticks : (t : ℕ) (p : Pwm) → Holds p → Holds (onTicks t p)
 
 -- in MODE 0 the output is 0, "where it stays"

@@ -45,26 +45,23 @@ waited (suc t) g w = ticked g (waited t g w)
 abbrev pub onTicks : ℕ → Pwm → Pwm
 onTicks t p = record { registers = p .registers; wave = waited t (p .registers) (p .wave) }
 
--- ---- writes: "No other write moves counter or output"
+-- ---- a write of register 0 CNFG, 1 CS, 2 MAX or 3 CMP: "No other write moves counter or output"
 
--- "Writing CNFG with MODE 0 makes the output 0"
-abbrev pub onCnfg : ℕ → Pwm → Pwm
-onCnfg v p = let g : Registers = record { cnfg = v; cs = p .registers .cs; max = p .registers .max; cmp = p .registers .cmp } in
-    let w : Wave = record { counter = p .wave .counter; remainder = p .wave .remainder; output = p .wave .output && mode v } in
-    record { registers = g; wave = w }
+abbrev pub set : ℕ → ℕ → Registers → Registers
+set register v g = record {
+  cnfg = cond (eqb register 0) v (g .cnfg);
+  cs = cond (eqb register 1) v (g .cs);
+  max = cond (eqb register 2) v (g .max);
+  cmp = cond (eqb register 3) v (g .cmp);
+}
 
--- "Writing CS sets the remainder to 0"
-abbrev pub onCs : ℕ → Pwm → Pwm
-onCs v p = let g : Registers = record { cnfg = p .registers .cnfg; cs = v; max = p .registers .max; cmp = p .registers .cmp } in
-    record { registers = g; wave = record { counter = p .wave .counter; remainder = 0; output = p .wave .output } }
-
-abbrev pub onMax : ℕ → Pwm → Pwm
-onMax v p = let g : Registers = record { cnfg = p .registers .cnfg; cs = p .registers .cs; max = v; cmp = p .registers .cmp } in
-    record { registers = g; wave = p .wave }
-
-abbrev pub onCmp : ℕ → Pwm → Pwm
-onCmp v p = let g : Registers = record { cnfg = p .registers .cnfg; cs = p .registers .cs; max = p .registers .max; cmp = v } in
-    record { registers = g; wave = p .wave }
+-- "Writing CS sets the remainder to 0"; "Writing CNFG with MODE 0 makes the output 0"
+abbrev pub onWrite : ℕ → ℕ → Pwm → Pwm
+onWrite register v p = let w : Wave = record {
+  counter = p .wave .counter;
+  remainder = cond (eqb register 1) 0 (p .wave .remainder);
+  output = cond (eqb register 0) (p .wave .output && mode v) (p .wave .output);
+} in record { registers = set register v (p .registers); wave = w }
 
 -- ---- what is read: "0 CNFG, 1 CS, 2 MAX, 3 CMP, 4 CNTR, 5 output level"
 

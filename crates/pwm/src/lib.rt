@@ -1,18 +1,18 @@
 // One PWM channel: its registers, and the wave that ticks move.
 use bits::number;
 use std::num::wrapping_add_u16;
-use std::num::wrapping_sub_u8;
+use std::num::wrapping_sub_u16;
 ghost use mathlib.Core.Path.{_≡_};
 ghost use mathlib.Core.Bool.{true};
-ghost use Rattle.pwm.specs.Pwm.{inv, mode, onTicks, onCnfg, onCs, onMax, onCmp, registerOf, fresh};
+ghost use Rattle.pwm.specs.Pwm.{inv, mode, onTicks, onWrite, registerOf, fresh};
 ghost use Rattle.pwm.specs.How.{at, moved, climbed, wrapped, stepsOf, untilZero};
 ghost use Rattle.pwm.specs.Facts.{Short};
 
 pub struct Registers {
     pub max: u16,
     pub cmp: u16,
-    pub cnfg: u8,
-    pub cs: u8,
+    pub cnfg: u16,
+    pub cs: u16,
 }
 
 // What ticks move: the counter, the clock's remainder, the output.
@@ -27,13 +27,13 @@ pub struct Pwm {
     pub wave: Wave,
 }
 
-fn inv(cnfg: u8) -> bool
+fn inv(cnfg: u16) -> bool
     ensures { λ r. ⌜ r ≡ inv cnfg ⌝ }
 {
     cnfg % 2 == 1
 }
 
-fn mode(cnfg: u8) -> bool
+fn mode(cnfg: u16) -> bool
     ensures { λ r. ⌜ r ≡ mode cnfg ⌝ }
 {
     cnfg / 4 % 2 == 1
@@ -129,7 +129,7 @@ impl Pwm {
         requires { ⌜ Short self ⌝ }
         ensures { λ p. ⌜ p ≡ onTicks t self ⌝ }
     {
-        let place = wrapping_sub_u8(self.registers.cs, 1);
+        let place = wrapping_sub_u16(self.registers.cs, 1);
         if 6 < place {
             return self;
         }
@@ -138,8 +138,8 @@ impl Pwm {
         self.steps(s as u32, (m - (s << (place as u64))) as u8)
     }
 
-    pub fn write_cnfg(self, v: u8) -> Pwm
-        ensures { λ r. ⌜ r ≡ onCnfg v self ⌝ }
+    fn write_cnfg(self, v: u16) -> Pwm
+        ensures { λ r. ⌜ r ≡ onWrite 0 v self ⌝ }
     {
         Pwm {
             registers: Registers {
@@ -156,8 +156,8 @@ impl Pwm {
         }
     }
 
-    pub fn write_cs(self, v: u8) -> Pwm
-        ensures { λ r. ⌜ r ≡ onCs v self ⌝ }
+    fn write_cs(self, v: u16) -> Pwm
+        ensures { λ r. ⌜ r ≡ onWrite 1 v self ⌝ }
     {
         let remainder = 0;
         Pwm {
@@ -175,8 +175,8 @@ impl Pwm {
         }
     }
 
-    pub fn write_max(self, v: u16) -> Pwm
-        ensures { λ r. ⌜ r ≡ onMax v self ⌝ }
+    fn write_max(self, v: u16) -> Pwm
+        ensures { λ r. ⌜ r ≡ onWrite 2 v self ⌝ }
     {
         let w = self.wave;
         Pwm {
@@ -190,8 +190,8 @@ impl Pwm {
         }
     }
 
-    pub fn write_cmp(self, v: u16) -> Pwm
-        ensures { λ r. ⌜ r ≡ onCmp v self ⌝ }
+    fn write_cmp(self, v: u16) -> Pwm
+        ensures { λ r. ⌜ r ≡ onWrite 3 v self ⌝ }
     {
         let w = self.wave;
         Pwm {
@@ -203,6 +203,25 @@ impl Pwm {
             },
             wave: w,
         }
+    }
+
+    // A write of CNFG, CS, MAX or CMP, which are 0 to 3.
+    pub fn write(self, register: u64, v: u16) -> Pwm
+        ensures { λ r. ⌜ r ≡ onWrite register v self ⌝ }
+    {
+        if register == 0 {
+            return self.write_cnfg(v);
+        }
+        if register == 1 {
+            return self.write_cs(v);
+        }
+        if register == 2 {
+            return self.write_max(v);
+        }
+        if register == 3 {
+            return self.write_cmp(v);
+        }
+        self
     }
 
     pub fn register(self, register: u64) -> u64

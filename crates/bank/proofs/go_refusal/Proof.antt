@@ -4,4 +4,11 @@ use Rattle.bank.proofs.go_refusal.Statement.{statement}
 use Rattle.bank.proofs.go_refusal.Tie as tie
 
 pub go-refusal-spec : {M : Type 1} → statement M
-go-refusal-spec = tie.close (tie.spec (λ c κs. search needs) (λ c κs. search needs) (λ c. search go-barred) (λ c. search go-passes) (λ c. search go-stops) (λ c. search needs))
+go-refusal-spec =
+    tie.close
+    (tie.spec
+    (λ c κs. search needs)
+    (λ c κs. search needs)
+    (λ c. search go-barred)
+    (λ c. search go-passes)
+    (λ c. search go-stops))

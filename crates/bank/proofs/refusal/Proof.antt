@@ -1,6 +1,6 @@
 use mathlib.Core.Path.{refl}
 use Rattle.bank.specs.How.{refusalOf}
-use Rattle.bank.proofs.Arms.{refusal-arm, refusal-routed, refusal-go}
+use Rattle.bank.proofs.Arms.{refusal-arm, refusal-routed, refusal-i2c}
 use borrow.Author.Needs.{needs}
 use Rattle.bank.proofs.refusal.Statement.{statement}
 use Rattle.bank.proofs.refusal.Tie as tie
@@ -22,21 +22,6 @@ refusal-spec =
     (λ c κs. search needs)
     (λ c κs. search needs)
     (λ c. search needs)
-    (λ c κs. search needs)
-    (λ c κs. search needs)
-    (λ c. search needs)
-    (λ c κs. search needs)
-    (λ c κs. search needs)
-    (λ c. search needs)
-    (λ c κs. search needs)
-    (λ c κs. search needs)
-    (λ c. search needs)
-    (λ c κs. search needs)
-    (λ c κs. search needs)
-    (λ c. search needs)
-    (λ c κs. search needs)
-    (λ c κs. search needs)
-    (λ c. search needs)
     (λ c. search needs)
     (λ c. search needs)
     (λ c. search needs)
@@ -47,12 +32,7 @@ refusal-spec =
     (λ c. search refusal-arm)
     (λ c. search (refusal-routed, refl))
     (λ c. search (refusal-routed, refl))
-    (λ c. search (refusal-routed, refl))
-    (λ c. search (refusal-routed, refl))
-    (λ c. search (refusal-routed, refl))
-    (λ c. search (refusal-routed, refl))
-    (λ c. search (refusal-routed, refl))
-    (λ c. search (refusal-go, refl))
+    (λ c. search (refusal-i2c, refl))
     (λ c. search refusal-arm)
     (λ c. search refusal-arm)
     (λ c. search refusal-arm)
