@@ -53,23 +53,23 @@ set-there [] i d = refl
 set-there (x ∷ l) zero d = refl
 set-there (x ∷ l) (suc i) d = ap (λ (m : List Pwm). x ∷ m) (set-there l i d)
 
-module _ (t : ℕ) (b : Bank) where
+module _ (runs : Bool) (t : ℕ) (b : Bank) where
   pub pins-all : (pins : ℕ) → pins ≡ ones (b .select) → pins ≡ ones (b .select) / 2 ^ (2 * 0)
   pins-all pins e = omega arith
 
-  pub ticked-none : b ≡ with-pwms b (front (tickRouted (b .select) t) 0 0 (b .pwms))
-  ticked-none = ap (with-pwms b) (sym (front-none (tickRouted (b .select) t) (b .pwms)))
+  pub ticked-none : b ≡ with-pwms b (front (tickRouted runs (b .select) t) 0 0 (b .pwms))
+  ticked-none = ap (with-pwms b) (sym (front-none (tickRouted runs (b .select) t) (b .pwms)))
 
   -- the next one is as it was, so its remainder is short
-  pub ticked-short : Full b → (x : Bank) (i : ℕ) → x ≡ with-pwms b (front (tickRouted (b .select) t) 0 i (b .pwms)) → Short (getD (x .pwms) i pwm.fresh)
-  ticked-short full x i here = rw (here, front-behind (tickRouted (b .select) t) pwm.fresh 0 (b .pwms) i) (full .short i)
+  pub ticked-short : Full b → (x : Bank) (i : ℕ) → x ≡ with-pwms b (front (tickRouted runs (b .select) t) 0 i (b .pwms)) → Short (getD (x .pwms) i pwm.fresh)
+  ticked-short full x i here = rw (here, front-behind (tickRouted runs (b .select) t) pwm.fresh 0 (b .pwms) i) (full .short i)
 
   module _ (twenty : length (b .pwms) ≡ 20) (x : Bank) (i : ℕ)
-      (here : x ≡ with-pwms b (front (tickRouted (b .select) t) 0 i (b .pwms))) where
-    pub ticked-more : (r : Pwm) → i < 20 → r ≡ tickRouted (b .select) t i (getD (x .pwms) i pwm.fresh)
-        → with-pwms x (set (x .pwms) i r) ≡ with-pwms b (front (tickRouted (b .select) t) 0 (i + 1) (b .pwms))
+      (here : x ≡ with-pwms b (front (tickRouted runs (b .select) t) 0 i (b .pwms))) where
+    pub ticked-more : (r : Pwm) → i < 20 → r ≡ tickRouted runs (b .select) t i (getD (x .pwms) i pwm.fresh)
+        → with-pwms x (set (x .pwms) i r) ≡ with-pwms b (front (tickRouted runs (b .select) t) 0 (i + 1) (b .pwms))
     ticked-more r h q =
-        rw (q, here) (ap (with-pwms b) (front-more (tickRouted (b .select) t) pwm.fresh (b .pwms) i (omega (arith, twenty))))
+        rw (q, here) (ap (with-pwms b) (front-more (tickRouted runs (b .select) t) pwm.fresh (b .pwms) i (omega (arith, twenty))))
 
     -- a channel that is not routed stays, and one that is ticks, its bit being the first of those left
     module _ (pins : ℕ) (left : pins ≡ ones (b .select) / 2 ^ (2 * i)) (h : i < 20) where
@@ -79,18 +79,18 @@ module _ (t : ℕ) (b : Bank) where
       routed : pwmRouted (b .select) i ≡ eqb (pins % 2) 1
       routed = rw left (routed-bit (b .select) i h)
 
-      pub ticked-skip : (pins % 2 ≡ 1 → ⊥) → x ≡ with-pwms b (front (tickRouted (b .select) t) 0 (i + 1) (b .pwms))
+      pub ticked-skip : (pins % 2 ≡ 1 → ⊥) → x ≡ with-pwms b (front (tickRouted runs (b .select) t) 0 (i + 1) (b .pwms))
       ticked-skip d =
-          let l = front (tickRouted (b .select) t) 0 i (b .pwms) in
+          let l = front (tickRouted runs (b .select) t) 0 i (b .pwms) in
           let p = getD l i pwm.fresh in
-          let stays : p ≡ tickRouted (b .select) t i p = sym (ap (λ (y : Bool). cond y (pwm.onTicks t p) p) (routed ∙ ne-eqb _ _ d)) in
+          let stays : p ≡ tickRouted runs (b .select) t i p = sym (ap (λ (y : Bool). cond y (pwm.onTicks runs t p) p) (routed ∙ ne-eqb _ _ d)) in
           here
           ∙ ap (with-pwms b)
-          (sym (set-there l i pwm.fresh) ∙ ap (set l i) stays ∙ front-more (tickRouted (b .select) t) pwm.fresh (b .pwms) i (omega (arith, twenty)))
+          (sym (set-there l i pwm.fresh) ∙ ap (set l i) stays ∙ front-more (tickRouted runs (b .select) t) pwm.fresh (b .pwms) i (omega (arith, twenty)))
 
-      pub ticked-one : (r : Pwm) → pins % 2 ≡ 1 → r ≡ pwm.onTicks t (getD (x .pwms) i pwm.fresh)
-          → with-pwms x (set (x .pwms) i r) ≡ with-pwms b (front (tickRouted (b .select) t) 0 (i + 1) (b .pwms))
-      ticked-one r e q = ticked-more r h (q ∙ sym (ap (λ (y : Bool). cond y (pwm.onTicks t (getD (x .pwms) i pwm.fresh)) (getD (x .pwms) i pwm.fresh)) (routed ∙ eq-eqb _ _ e)))
+      pub ticked-one : (r : Pwm) → pins % 2 ≡ 1 → r ≡ pwm.onTicks runs t (getD (x .pwms) i pwm.fresh)
+          → with-pwms x (set (x .pwms) i r) ≡ with-pwms b (front (tickRouted runs (b .select) t) 0 (i + 1) (b .pwms))
+      ticked-one r e q = ticked-more r h (q ∙ sym (ap (λ (y : Bool). cond y (pwm.onTicks runs t (getD (x .pwms) i pwm.fresh)) (getD (x .pwms) i pwm.fresh)) (routed ∙ eq-eqb _ _ e)))
 
-    pub ticked-all : i ≤ 20 → 20 ≤ i → x ≡ onTicks t b
-    ticked-all h k = here ∙ ap (with-pwms b) (front-all (tickRouted (b .select) t) (b .pwms) i 20 twenty h k)
+    pub ticked-all : i ≤ 20 → 20 ≤ i → x ≡ onTicks runs t b
+    ticked-all h k = here ∙ ap (with-pwms b) (front-all (tickRouted runs (b .select) t) (b .pwms) i 20 twenty h k)

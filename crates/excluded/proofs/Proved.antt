@@ -49,7 +49,7 @@ unfolding replayOf replayFrom playOf
 right log out = (ap stopOf (at (trailerOf log)), ap (λ x. written x out) (at (trailerOf log)))
   where
     at : (t : Trailer) → runFrom t played log (length out) ≡ replayFrom t log (length out)
-    at (Found a n) = refl
+    at (Found a n e) = refl
     at (Refused k) = refl
 
 -- ---- requests with tolerance 0: the period of a pair that is answered, times the rate, is the clock

@@ -7,6 +7,8 @@ use mathlib.Core.List.{List, [], _∷_, map}
 use lib.Dec.{leb}
 use lib.IntN.{pos}
 use lib.ListN.{length, drop}
+use Rattle.edition.specs.Edition.{editionOf}
+use Rattle.edition.specs.declared.Edition.{Edition}
 use Rattle.fold.specs.Turn.{lift}
 use Rattle.fold.specs.Run.{Run, halted, under, retold, resumed, runOf}
 use Rattle.fold.specs.Output.{stopOf}
@@ -23,13 +25,13 @@ use Rattle.rate.specs.Rate.{pwm, spi, Answer}
 use Rattle.rate.specs.declared.Found.the-variants.{Pair}
 
 -- a replay that gives refusals 1 to 6 where they are due, and goes on with the log's records by `run`
-abbrev pub runFrom : Trailer → (List (List ℕ) → Run Bank ℕ) → List ℕ → ℕ → Run Bank ℕ
+abbrev pub runFrom : Trailer → (Edition → List (List ℕ) → Run Bank ℕ) → List ℕ → ℕ → Run Bank ℕ
 runFrom (Refused k) run log room = halted fresh 0 [] k
-runFrom (Found a n) run log room = let rs = records 16 n (drop a log) in
-    cond (leb (8 * readsIn rs) room) (run rs) (halted fresh 0 [] 6)
+runFrom (Found a n e) run log room = let rs = records 16 n (drop a log) in
+    cond (leb (8 * readsIn rs) room) (run (editionOf e) rs) (halted fresh 0 [] 6)
 
 -- it gives the answer and the output that `replay` promises
-abbrev pub Meets : (List (List ℕ) → Run Bank ℕ) → Type 0
+abbrev pub Meets : (Edition → List (List ℕ) → Run Bank ℕ) → Type 0
 Meets run = (log out : List ℕ) → let x = runFrom (trailerOf log) run log (length out) in
     let y = replayOf log (length out) in (stopOf x ≡ stopOf y) × (written x out ≡ written y out)
 
@@ -42,9 +44,9 @@ unmoved b = record { select = b .select; encoders = map uncounted (b .encoders);
 
 -- "one that applies the first record and then only advances its tally": the others leave the bank as it is, and what they read is
 -- read there
-abbrev pub firstOnly : List (List ℕ) → Run Bank ℕ
-firstOnly [] = under fresh 0 []
-firstOnly (r ∷ rs) = resumed (λ b q. lift (λ (t : Bank). b) (turnOf b q)) (played (r ∷ [])) rs
+abbrev pub firstOnly : Edition → List (List ℕ) → Run Bank ℕ
+firstOnly e [] = under fresh 0 []
+firstOnly e (r ∷ rs) = resumed (λ b q. lift (λ (t : Bank). b) (turnOf e b q)) (played e (r ∷ [])) rs
 
 -- "an invented applied tally": by k more than were applied
 abbrev pub more : ℕ → Run Bank ℕ → Run Bank ℕ
@@ -54,12 +56,12 @@ more k x = record { course = x .course; state = x .state; applied = x .applied +
 -- and 40 Hz with tolerance 0
 pub record Excluded : Type 0 where
   -- "a replay that refuses all", each by any number but 0
-  pub refuses-all : (k : List (List ℕ) → ℕ) → Meets (λ rs. halted fresh 0 [] (suc (k rs))) → ⊥
+  pub refuses-all : (k : List (List ℕ) → ℕ) → Meets (λ e rs. halted fresh 0 [] (suc (k rs))) → ⊥
   -- "one that never moves a count", or "always prints one reading", any v
-  pub never-moves : Meets (λ rs. runOf (λ b r. lift unmoved (turnOf b r)) fresh rs) → ⊥
-  pub one-reading : (v : ℕ) → Meets (λ rs. retold (λ (w : ℕ). v) (played rs)) → ⊥
+  pub never-moves : Meets (λ e rs. runOf (λ b r. lift unmoved (turnOf e b r)) fresh rs) → ⊥
+  pub one-reading : (v : ℕ) → Meets (λ e rs. retold (λ (w : ℕ). v) (played e rs)) → ⊥
   pub first-only : Meets firstOnly → ⊥
-  pub invented-tally : (k : List (List ℕ) → ℕ) → Meets (λ rs. more (suc (k rs)) (played rs)) → ⊥
+  pub invented-tally : (k : List (List ℕ) → ℕ) → Meets (λ e rs. more (suc (k rs)) (played e rs)) → ⊥
   -- "a rate finder with a fixed pair", any pair and period
   pub fixed-pwm : (c x p : ℕ) → ((f tol : ℕ) → Answer pwm f tol (Pair c x p)) → ⊥
   pub fixed-spi : (c x p : ℕ) → ((f tol : ℕ) → Answer spi f tol (Pair c x p)) → ⊥

@@ -3,7 +3,7 @@ ghost use mathlib.Core.Path.{_≡_};
 ghost use mathlib.Core.Bool.{cond};
 ghost use lib.Dec.{ltb, eqb};
 ghost use Rattle.i2c.specs.I2c.{codeOf, code, stateOf, allowed, forbidden, ended, recalled, onAddr, onCntl, ran, registerOf, fresh};
-ghost use Rattle.i2c.specs.How.{written};
+ghost use Rattle.i2c.specs.How.{onWrite};
 
 pub enum Phase {
     Idle,
@@ -168,7 +168,7 @@ impl I2c {
 
     // A write of ADDR, CNTL or GO, which are 0 to 2, that is not refused.
     pub fn write(self, register: u64, v: u8) -> I2c
-        ensures { λ r. ⌜ r ≡ written register v self ⌝ }
+        ensures { λ r. ⌜ r ≡ onWrite register v self ⌝ }
     {
         if register == 0 {
             return self.write_addr(v);

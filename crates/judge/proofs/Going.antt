@@ -129,7 +129,7 @@ module _ (log : List ℕ) (start : ℕ) (out ts : List ℕ) (ready : Ready log s
       at-in-log k h = omega (arith, a-record)
 
       pub place-fits : (k : ℕ) → k ≤ 16 → Fits w64 (at + k)
-      place-fits k h = record { fits = omega (arith, a-record, ends log start n (ready .found)) }
+      place-fits k h = record { fits = omega (arith, a-record, ends log start n (ready .edition) (ready .found)) }
 
       pub nearer : length log - (at + 16) < length log - at
       nearer = omega (arith, a-record)

@@ -13,7 +13,7 @@ use Rattle.fold.proofs.Runs.{halts, first-applied, first-refused, every-run}
 use Rattle.fold.proofs.Laws.{room-exact, first-goes, rest-goes, rest-readings}
 use Rattle.fold.proofs.Written.{length-bytes}
 use Rattle.wire.specs.Bytes.{leOf, leBytes, asks, readsIn}
-use Rattle.wire.specs.Trailer.{recordsOf}
+use Rattle.wire.specs.Trailer.{recordsOf, editionIn}
 use Rattle.bank.specs.declared.Bank.{Bank}
 use Rattle.bank.specs.Bank.{fresh}
 use Rattle.replay.specs.Replay.{turnOf, played}
@@ -93,49 +93,52 @@ said-turned false v h = refl
 -- ---- in the transcripts of a log that replays without refusal
 
 module _ (log : List ℕ) (accepted : courseOf log ≡ going) where
-  pub goes-through : played (recordsOf log) .course ≡ going
+  abbrev T : Bank → List ℕ → Turn Bank ℕ
+  T = turnOf (editionIn log)
+
+  pub goes-through : played (editionIn log) (recordsOf log) .course ≡ going
   goes-through = sym (ap (λ (x : Run Bank ℕ). x .course) (numbers.accepted log 16_384 accepted)) ∙ accepted
 
-  pub opposite-goes : runOf (negating turnOf) fresh (recordsOf log) .course ≡ going
-  opposite-goes = beside turnOf fresh (recordsOf log) .course ∙ goes-through
+  pub opposite-goes : runOf (negating T) fresh (recordsOf log) .course ≡ going
+  opposite-goes = beside T fresh (recordsOf log) .course ∙ goes-through
 
-  as-many : (rs : List (List ℕ)) → played rs .course ≡ going → length (played rs .readings) ≡ readsIn rs
-  as-many = room-exact turnOf asks reads-exactly fresh
+  as-many : (rs : List (List ℕ)) → played (editionIn log) rs .course ≡ going → length (played (editionIn log) rs .readings) ≡ readsIn rs
+  as-many = room-exact T asks (reads-exactly (editionIn log)) fresh
 
   pub plain-long : length (plain log) ≡ 8 * readsIn (recordsOf log)
-  plain-long = omega (arith, length-bytes (leBytes 8) (λ v. refl) (played (recordsOf log) .readings), as-many (recordsOf log) goes-through)
+  plain-long = omega (arith, length-bytes (leBytes 8) (λ v. refl) (played (editionIn log) (recordsOf log) .readings), as-many (recordsOf log) goes-through)
 
   pub opposite-long : length (opposite log) ≡ length (plain log)
-  opposite-long = omega (arith, length-bytes (leBytes 8) (λ v. refl) (runOf (negating turnOf) fresh (recordsOf log) .readings), beside turnOf fresh (recordsOf log) .long, length-bytes (leBytes 8) (λ v. refl) (played (recordsOf log) .readings))
+  opposite-long = omega (arith, length-bytes (leBytes 8) (λ v. refl) (runOf (negating T) fresh (recordsOf log) .readings), beside T fresh (recordsOf log) .long, length-bytes (leBytes 8) (λ v. refl) (played (editionIn log) (recordsOf log) .readings))
 
   module _ (before : List (List ℕ)) (r : List ℕ) (later : List (List ℕ)) (cut : recordsOf log ≡ before ++ r ∷ later) where
-    goes-on : played (before ++ r ∷ later) .course ≡ going
-    goes-on = ap (λ (rs : List (List ℕ)). played rs .course) (sym cut) ∙ goes-through
+    goes-on : played (editionIn log) (before ++ r ∷ later) .course ≡ going
+    goes-on = ap (λ (rs : List (List ℕ)). played (editionIn log) rs .course) (sym cut) ∙ goes-through
 
-    opposite-on : runOf (negating turnOf) fresh (before ++ r ∷ later) .course ≡ going
-    opposite-on = beside turnOf fresh (before ++ r ∷ later) .course ∙ goes-on
+    opposite-on : runOf (negating T) fresh (before ++ r ∷ later) .course ≡ going
+    opposite-on = beside T fresh (before ++ r ∷ later) .course ∙ goes-on
 
-    count : length (played before .readings) ≡ readsIn before
-    count = as-many before (goes-before turnOf fresh before r later goes-on)
+    count : length (played (editionIn log) before .readings) ≡ readsIn before
+    count = as-many before (goes-before T fresh before r later goes-on)
 
-    pub there-is : asks r ≡ true → (v : ℕ) × (turnOf (played before .state) r ≡ reads v)
-    there-is a = answered (turnOf (played before .state) r) (reads-exactly (played before .state) r (applied turnOf fresh before r later goes-on) ∙ a)
+    pub there-is : asks r ≡ true → (v : ℕ) × (T (played (editionIn log) before .state) r ≡ reads v)
+    there-is a = answered (T (played (editionIn log) before .state) r) (reads-exactly (editionIn log) (played (editionIn log) before .state) r (applied T fresh before r later goes-on) ∙ a)
 
-    module _ (v : ℕ) (read : turnOf (played before .state) r ≡ reads v) where
+    module _ (v : ℕ) (read : T (played (editionIn log) before .state) r ≡ reads v) where
       pub shown : leOf 8 (plain log) (8 * readsIn before) ≡ said v
       shown =
-          let cut-readings = splits turnOf fresh before r later goes-on v read in
-          rw (cut, cut-readings .1, ← count) (reading-at (played before .readings) v (cut-readings .0))
+          let cut-readings = splits T fresh before r later goes-on v read in
+          rw (cut, cut-readings .1, ← count) (reading-at (played (editionIn log) before .readings) v (cut-readings .0))
 
       pub turned-over : leOf 8 (opposite log) (8 * readsIn before) ≡ said (turned r v)
       turned-over =
-          let at = beside turnOf fresh before in
-          let opposed = ap (λ (s : Bank). negating turnOf s r) (at .state) ∙ ap (retell (turned r)) read in
-          let cut-readings = splits (negating turnOf) fresh before r later opposite-on (turned r v) opposed in
-          rw (cut, cut-readings .1, ← count, ← at .long) (reading-at (runOf (negating turnOf) fresh before .readings) (turned r v) (cut-readings .0))
+          let at = beside T fresh before in
+          let opposed = ap (λ (s : Bank). negating T s r) (at .state) ∙ ap (retell (turned r)) read in
+          let cut-readings = splits (negating T) fresh before r later opposite-on (turned r v) opposed in
+          rw (cut, cut-readings .1, ← count, ← at .long) (reading-at (runOf (negating T) fresh before .readings) (turned r v) (cut-readings .0))
 
     -- what stands in the one by what stands in the other
     pub over : asks r ≡ true → leOf 8 (opposite log) (8 * readsIn before) ≡ turned r (leOf 8 (plain log) (8 * readsIn before))
     over a =
         let x = there-is a in
-        turned-over (x .0) (x .1) ∙ said-turned (ofCntr r) (x .0) (λ c. cntr-small (played before .state) r (x .0) c (x .1)) ∙ ap (turned r) (sym (shown (x .0) (x .1)))
+        turned-over (x .0) (x .1) ∙ said-turned (ofCntr r) (x .0) (λ c. cntr-small (editionIn log) (played (editionIn log) before .state) r (x .0) c (x .1)) ∙ ap (turned r) (sym (shown (x .0) (x .1)))

@@ -5,11 +5,12 @@ use mathlib.Core.Logic.{_⊎_, inl, inr}
 use mathlib.Core.List.{List, _++_}
 use Prim.Native.Nat.{ℕ}
 use native.Mathlib.Omega.{arith}
+use Rattle.edition.specs.declared.Edition.{Edition}
 use Rattle.fold.specs.Run.{Run, going, stopped, runOf}
 use Rattle.fold.specs.Turn.{Turn}
 use Rattle.fold.specs.Output.{bytesOf}
 use Rattle.wire.specs.Bytes.{leBytes}
-use Rattle.wire.specs.Trailer.{trailerOf, recordsOf}
+use Rattle.wire.specs.Trailer.{trailerOf, recordsOf, editionIn}
 use Rattle.wire.specs.declared.Trailer.{Trailer}
 use Rattle.wire.specs.declared.Trailer.the-variants.{Found, Refused}
 use Rattle.wire.proofs.Laws.{one-to-five}
@@ -17,7 +18,7 @@ use Rattle.bank.specs.declared.Bank.{Bank}
 use Rattle.bank.specs.Bank.{fresh}
 use Rattle.replay.specs.Replay.{turnOf, replayFrom, replayOf}
 use Rattle.replay.proofs.Numbers.{Number, run-number}
-use Rattle.replay.proofs.Notes.{same-records}
+use Rattle.replay.proofs.Notes.{same-records, same-edition}
 use Rattle.replay.proofs.Proved as replayed
 use Rattle.judge.specs.Judge.{negating, plain, opposite, courseOf, Judged, same, negated, both}
 use Rattle.judge.specs.Facts.{Shown, NotesIgnored}
@@ -37,9 +38,9 @@ never-six log six = by (trailerOf log) refl
         let is : stopped k ≡ stopped 6 = sym (ap (λ (t : Trailer). replayFrom t log 16_384 .course) e) ∙ six in
         let k-is : k ≡ 6 = cc in
         omega (arith, one-to-five log k e)
-    by (Found a n) e =
-        let run = replayed.replayed log a n 16_384 e (omega (arith, answers.has-room log)) in
-        not-six (run-number (recordsOf log) 6 (sym (ap (λ (x : Run Bank ℕ). x .course) run) ∙ six))
+    by (Found a n o) e =
+        let run = replayed.replayed log a n o 16_384 e (omega (arith, answers.has-room log)) in
+        not-six (run-number (editionIn log) (recordsOf log) 6 (sym (ap (λ (x : Run Bank ℕ). x .course) run) ∙ six))
 
 pub shown : (log ts : List ℕ) → Shown log ts
 shown log ts =
@@ -64,10 +65,19 @@ shown log ts =
 
 pub notes-ignored : NotesIgnored
 notes-ignored notes other tail ts a p q short back =
-    let records = same-records notes tail p short back ∙ sym (same-records other tail q short back) in
     answers.carried (notes ++ tail) (other ++ tail) ts a
     (ap (λ (x : Run Bank ℕ). x .course) (replayed.notes-ignored notes other tail 16_384 p q short back))
-    (ap (transcript turnOf) records) (ap (transcript (negating turnOf)) records)
+    (same turnOf) (same (λ (o : Edition). negating (turnOf o)))
   where
-    transcript : (Bank → List ℕ → Turn Bank ℕ) → List (List ℕ) → List ℕ
-    transcript turn rs = bytesOf (leBytes 8) (runOf turn fresh rs .readings)
+    records : recordsOf (notes ++ tail) ≡ recordsOf (other ++ tail)
+    records = same-records notes tail p short back ∙ sym (same-records other tail q short back)
+
+    edition : editionIn (notes ++ tail) ≡ editionIn (other ++ tail)
+    edition = same-edition notes tail p short back ∙ sym (same-edition other tail q short back)
+
+    transcript : (Edition → Bank → List ℕ → Turn Bank ℕ) → Edition → List (List ℕ) → List ℕ
+    transcript turn o rs = bytesOf (leBytes 8) (runOf (turn o) fresh rs .readings)
+
+    same : (turn : Edition → Bank → List ℕ → Turn Bank ℕ)
+        → transcript turn (editionIn (notes ++ tail)) (recordsOf (notes ++ tail)) ≡ transcript turn (editionIn (other ++ tail)) (recordsOf (other ++ tail))
+    same turn = ap (λ (o : Edition). transcript turn o (recordsOf (notes ++ tail))) edition ∙ ap (transcript turn (editionIn (other ++ tail))) records

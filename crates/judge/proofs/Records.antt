@@ -7,6 +7,7 @@ use Prim.Native.Nat.{ℕ, _<_, _^_}
 use native.Mathlib.Omega.{arith}
 use lib.Dec.{eqb}
 use borrow.Author.Tests.{eqb-true}
+use Rattle.edition.specs.declared.Edition.{Edition}
 use Rattle.laws.proofs.Truth.{both-true}
 use Rattle.fold.specs.Turn.{Turn, reads, applies, answers}
 use Rattle.wire.specs.Bytes.{byte, asks}
@@ -27,18 +28,18 @@ use Rattle.bank.proofs.Turns.{reading, exactly}
 use Rattle.replay.specs.Replay.{decodedTurn, turnOf}
 use Rattle.judge.specs.Judge.{ofCntr}
 
-pub reads-exactly : (b : Bank) (s : List ℕ) → applies (turnOf b s) ≡ true → answers (turnOf b s) ≡ asks s
+pub reads-exactly : (o : Edition) (b : Bank) (s : List ℕ) → applies (turnOf o b s) ≡ true → answers (turnOf o b s) ≡ asks s
 unfolding turnOf
-reads-exactly b s = by (decodeOf s) refl
+reads-exactly o b s = by (decodeOf s) refl
   where
-    by : (d : Decoded) → decodeOf s ≡ d → applies (decodedTurn b d) ≡ true → answers (decodedTurn b d) ≡ asks s
-    by (Names r) e h = exactly b r h ∙ reads-ask s r e
+    by : (d : Decoded) → decodeOf s ≡ d → applies (decodedTurn o b d) ≡ true → answers (decodedTurn o b d) ≡ asks s
+    by (Names r) e h = exactly o b r h ∙ reads-ask s r e
     by (Refused n) e h = absurd (false≢true h)
 
 -- "CNTR reads its bit pattern"
-pub cntr-small : (b : Bank) (s : List ℕ) (v : ℕ) → ofCntr s ≡ true → turnOf b s ≡ reads v → v < 2 ^ 32
+pub cntr-small : (o : Edition) (b : Bank) (s : List ℕ) (v : ℕ) → ofCntr s ≡ true → turnOf o b s ≡ reads v → v < 2 ^ 32
 unfolding turnOf bank.turnOf
-cntr-small b s v c = by (decodeOf s) refl
+cntr-small o b s v c = by (decodeOf s) refl
   where
     is-block : byte s 1 ≡ 1
     is-block = eqb-true (byte s 1) 1 (both-true (eqb (byte s 1) 1) (eqb (byte s 3) 2) c .0)
@@ -46,13 +47,13 @@ cntr-small b s v c = by (decodeOf s) refl
     is-register : byte s 3 ≡ 2
     is-register = eqb-true (byte s 3) 2 (both-true (eqb (byte s 1) 1) (eqb (byte s 3) 2) c .1)
 
-    no-read : (r : Record) → isRead r ≡ false → bank.turnOf b r ≡ reads v → v < 2 ^ 32
-    no-read r n e = absurd (false≢true (sym n ∙ reading b r (ap answers e)))
+    no-read : (r : Record) → isRead r ≡ false → bank.turnOf o b r ≡ reads v → v < 2 ^ 32
+    no-read r n e = absurd (false≢true (sym n ∙ reading o b r (ap answers e)))
 
     other : (k : ℕ) → byte s 1 ≡ k → (k ≡ 1 → ⊥) → v < 2 ^ 32
     other k e d = absurd (d (sym e ∙ is-block))
 
-    named : (r : Record) → Formed s r → bank.turnOf b r ≡ reads v → v < 2 ^ 32
+    named : (r : Record) → Formed s r → bank.turnOf o b r ≡ reads v → v < 2 ^ 32
     named (WriteSelect w) f e = no-read (WriteSelect w) refl e
     named (WriteEncoder i w) f e = no-read (WriteEncoder i w) refl e
     named (WritePwm i g w) f e = no-read (WritePwm i g w) refl e
@@ -68,6 +69,6 @@ cntr-small b s v c = by (decodeOf s) refl
         let is : pattern (encoderAt i b .count) ≡ v = cc in
         omega (arith, pattern-lt (encoderAt i b .count))
 
-    by : (d : Decoded) → decodeOf s ≡ d → decodedTurn b d ≡ reads v → v < 2 ^ 32
+    by : (d : Decoded) → decodeOf s ≡ d → decodedTurn o b d ≡ reads v → v < 2 ^ 32
     by (Names r) e h = named r (formed s r e) h
     by (Refused n) e h = absurd (false≢true (ap answers h))

@@ -8,13 +8,14 @@ use Prim.Native.Nat.{ℕ, _+_, _*_, _-_, _%_, _^_, _<_}
 use native.Mathlib.Omega.{arith}
 use lib.Dec.{eqb}
 use borrow.Author.Tests.{eqb-true, eqb-false}
+use Rattle.edition.specs.declared.Edition.{Edition}
 use Rattle.fold.specs.Turn.{Turn, goes, reads, refused, retell, applies, leaves, given}
 use Rattle.fold.specs.Run.{Run, going, resumed, runOf}
 use Rattle.fold.proofs.Turns.{retell-applies, retell-leaves}
 use Rattle.fold.proofs.Runs.{first-applied, every-going}
 use Rattle.fold.specs.Output.{bytesOf}
 use Rattle.wire.specs.Bytes.{leOf, leBytes, readsIn}
-use Rattle.wire.specs.Trailer.{recordsOf}
+use Rattle.wire.specs.Trailer.{recordsOf, editionIn}
 use Rattle.bank.specs.declared.Bank.{Bank}
 use Rattle.bank.specs.Bank.{fresh}
 use Rattle.replay.specs.Replay.{turnOf, played}
@@ -51,20 +52,15 @@ twice-neg v h = omega arith
 -- ---- the transcripts are the same only where each CNTR reading stands still
 
 module _ (log : List ℕ) (accepted : courseOf log ≡ going) where
-  pub still-only : plain log ≡ opposite log → Still (recordsOf log)
+  pub still-only : plain log ≡ opposite log → Still (editionIn log) (recordsOf log)
   still-only e before later r v cut c read =
-      let small = cntr-small (played before .state) r v c read in
+      let small = cntr-small (editionIn log) (played (editionIn log) before .state) r v c read in
       let k = 8 * readsIn before in
       let said-same : said v ≡ said (turned r v) =
       sym (shown log accepted before r later cut v read) ∙ ap (λ (l : List ℕ). leOf 8 l k) e ∙ turned-over log accepted before r later cut v read in
       neg-unmoved v small (sym (said-small v small) ∙ said-same ∙ ap said (rw c) ∙ said-small (neg v) (omega arith))
 
 -- ---- and where it does
-
-StillFrom : Bank → List (List ℕ) → Type 0
-StillFrom b rs =
-    (before later : List (List ℕ)) (r : List ℕ) (v : ℕ) → rs ≡ before ++ r ∷ later → ofCntr r ≡ true
-    → turnOf (runOf turnOf b before .state) r ≡ reads v → Unmoved v
 
 same-given : (r : List ℕ) (x : Turn Bank ℕ) → ((v : ℕ) → ofCntr r ≡ true → x ≡ reads v → Unmoved v) → given (retell (turned r) x) ≡ given x
 same-given r (goes b) h = refl
@@ -75,25 +71,31 @@ same-given r (reads v) h = by (ofCntr r) refl
     by true c = ap (λ (w : ℕ). w ∷ []) (unmoved-neg v (h v c refl))
     by false c = refl
 
-same-readings : (b : Bank) (rs : List (List ℕ)) → runOf turnOf b rs .course ≡ going → StillFrom b rs
-    → runOf (negating turnOf) b rs .readings ≡ runOf turnOf b rs .readings
-unfolding runOf resumed StillFrom
-same-readings b rs g =
-    every-going turnOf (λ b rs x. StillFrom b rs → runOf (negating turnOf) b rs .readings ≡ x .readings) (λ b s. refl) more b rs g
-  where
-    more : (b : Bank) (r : List ℕ) (rs : List (List ℕ)) → applies (turnOf b r) ≡ true
-        → (StillFrom (leaves b (turnOf b r)) rs → runOf (negating turnOf) (leaves b (turnOf b r)) rs .readings ≡ runOf turnOf (leaves b (turnOf b r)) rs .readings)
-        → StillFrom b (r ∷ rs) → runOf (negating turnOf) b (r ∷ rs) .readings ≡ given (turnOf b r) ++ runOf turnOf (leaves b (turnOf b r)) rs .readings
-    more b r rs a ih s =
-        let x = turnOf b r in
-        ap (λ (y : Run Bank ℕ). y .readings) (first-applied (negating turnOf) b r rs (retell-applies (turned r) x ∙ a))
-        ∙ rw (retell-leaves (turned r) b x, same-given r x (λ v c e. s [] rs r v refl c e))
-        (ap (λ (l : List ℕ). given x ++ l)
-        (ih (λ before later q v e c read. s (r ∷ before) later q v (ap (λ (l : List (List ℕ)). r ∷ l) e) c (ap (λ (y : Run Bank ℕ). turnOf (y .state) q) (first-applied turnOf b r before a) ∙ read))))
+module _ (turn : Bank → List ℕ → Turn Bank ℕ) where
+  StillFrom : Bank → List (List ℕ) → Type 0
+  StillFrom b rs =
+      (before later : List (List ℕ)) (r : List ℕ) (v : ℕ) → rs ≡ before ++ r ∷ later → ofCntr r ≡ true
+      → turn (runOf turn b before .state) r ≡ reads v → Unmoved v
 
-pub still-same : (log : List ℕ) → courseOf log ≡ going → Still (recordsOf log) → plain log ≡ opposite log
+  same-readings : (b : Bank) (rs : List (List ℕ)) → runOf turn b rs .course ≡ going → StillFrom b rs
+      → runOf (negating turn) b rs .readings ≡ runOf turn b rs .readings
+  unfolding runOf resumed StillFrom
+  same-readings b rs g =
+      every-going turn (λ b rs x. StillFrom b rs → runOf (negating turn) b rs .readings ≡ x .readings) (λ b s. refl) more b rs g
+    where
+      more : (b : Bank) (r : List ℕ) (rs : List (List ℕ)) → applies (turn b r) ≡ true
+          → (StillFrom (leaves b (turn b r)) rs → runOf (negating turn) (leaves b (turn b r)) rs .readings ≡ runOf turn (leaves b (turn b r)) rs .readings)
+          → StillFrom b (r ∷ rs) → runOf (negating turn) b (r ∷ rs) .readings ≡ given (turn b r) ++ runOf turn (leaves b (turn b r)) rs .readings
+      more b r rs a ih s =
+          let x = turn b r in
+          ap (λ (y : Run Bank ℕ). y .readings) (first-applied (negating turn) b r rs (retell-applies (turned r) x ∙ a))
+          ∙ rw (retell-leaves (turned r) b x, same-given r x (λ v c e. s [] rs r v refl c e))
+          (ap (λ (l : List ℕ). given x ++ l)
+          (ih (λ before later q v e c read. s (r ∷ before) later q v (ap (λ (l : List (List ℕ)). r ∷ l) e) c (ap (λ (y : Run Bank ℕ). turn (y .state) q) (first-applied turn b r before a) ∙ read))))
+
+pub still-same : (log : List ℕ) → courseOf log ≡ going → Still (editionIn log) (recordsOf log) → plain log ≡ opposite log
 unfolding StillFrom
-still-same log accepted s = sym (ap (bytesOf (leBytes 8)) (same-readings fresh (recordsOf log) (goes-through log accepted) s))
+still-same log accepted s = sym (ap (bytesOf (leBytes 8)) (same-readings (turnOf (editionIn log)) fresh (recordsOf log) (goes-through log accepted) s))
 
 -- ---- negating twice
 
@@ -104,13 +106,13 @@ twice-told r v h = by (ofCntr r) refl
     by true c = twice-neg v (h c)
     by false c = refl
 
-twice-turn : (b : Bank) (r : List ℕ) → negating (negating turnOf) b r ≡ turnOf b r
-twice-turn b r = by (turnOf b r) refl
+twice-turn : (o : Edition) (b : Bank) (r : List ℕ) → negating (negating (turnOf o)) b r ≡ turnOf o b r
+twice-turn o b r = by (turnOf o b r) refl
   where
-    by : (x : Turn Bank ℕ) → turnOf b r ≡ x → retell (turned r) (retell (turned r) x) ≡ x
+    by : (x : Turn Bank ℕ) → turnOf o b r ≡ x → retell (turned r) (retell (turned r) x) ≡ x
     by (goes s) e = refl
-    by (reads v) e = ap reads (twice-told r v (λ c. cntr-small b r v c e))
+    by (reads v) e = ap reads (twice-told r v (λ c. cntr-small o b r v c e))
     by (refused k) e = refl
 
-pub negated-twice : (log : List ℕ) → transcriptBy (negating (negating turnOf)) log ≡ plain log
-negated-twice log = λ i. transcriptBy (λ b r. twice-turn b r i) log
+pub negated-twice : (log : List ℕ) → transcriptBy (negating (negating (turnOf (editionIn log)))) log ≡ plain log
+negated-twice log = λ i. transcriptBy (λ b r. twice-turn (editionIn log) b r i) log

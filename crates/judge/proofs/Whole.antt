@@ -15,7 +15,7 @@ use Rattle.fold.specs.Output.{numberOf, bytesOf, over, stopOf, outputOf}
 use Rattle.fold.specs.declared.Stop.{Stop}
 use Rattle.fold.proofs.Written.{length-bytes}
 use Rattle.wire.specs.Bytes.{leBytes}
-use Rattle.wire.specs.Trailer.{trailerOf, recordsOf}
+use Rattle.wire.specs.Trailer.{trailerOf, recordsOf, editionIn}
 use Rattle.wire.specs.declared.Trailer.{Trailer}
 use Rattle.wire.specs.declared.Trailer.the-variants.{Found, Refused as NoTrailer}
 use Rattle.wire.proofs.Laws.{found-within}
@@ -47,7 +47,7 @@ module _ (log : List ℕ) (room : ℕ) (enough : room ≡ 16_384) (x : Stop) (is
   long : (courseOf log ≡ going) → 8 * x .readings ≡ length (plain log)
   unfolding stopOf
   long a =
-      omega (arith, ap (λ (s : Stop). s .readings) is, ap (λ (n : ℕ). length (replayOf log n .readings)) enough, ap (λ (r : Run Bank ℕ). length (r .readings)) (accepted log 16_384 a), length-bytes (leBytes 8) (λ v. refl) (played (recordsOf log) .readings))
+      omega (arith, ap (λ (s : Stop). s .readings) is, ap (λ (n : ℕ). length (replayOf log n .readings)) enough, ap (λ (r : Run Bank ℕ). length (r .readings)) (accepted log 16_384 a), length-bytes (leBytes 8) (λ v. refl) (played (editionIn log) (recordsOf log) .readings))
 
   -- a refusal's number is not 0
   goes-through : x .refused ≡ 0 → courseOf log ≡ going
@@ -90,16 +90,17 @@ module _ (log : List ℕ) (room : ℕ) (enough : room ≡ 16_384) (x : Stop) (is
         by true false z f h = absurd (omega arith)
         by false f z g h = absurd (eqb-false (x .refused) 0 z (sym h ∙ o))
 
-    pub ready : (out out′ : List ℕ) → out′ ≡ written (replayOf log room) out → n ≡ 0 → (t : Trailer) (a c : ℕ) → t ≡ trailerOf log → t ≡ Found a c → Ready log a out′ ts
+    pub ready : (out out′ : List ℕ) → out′ ≡ written (replayOf log room) out → n ≡ 0 → (t : Trailer) (a c o : ℕ) → t ≡ trailerOf log → t ≡ Found a c o → Ready log a out′ ts
     unfolding outputOf over
-    ready out out′ wrote o t a c p q =
-        let k = accepts o in
+    ready out out′ wrote z t a c o p q =
+        let k = accepts z in
         let out-is : out′ ≡ plain log ++ drop (length (plain log)) out =
         wrote ∙ ap (λ (j : ℕ). written (replayOf log j) out) enough ∙ ap (λ (r : Run Bank ℕ). written r out) (accepted log 16_384 (k .0)) in
         record {
           records = c;
+          edition = o;
           found = sym p ∙ q;
-          within = found-within log t a c p q;
+          within = found-within log t a c o p q;
           accepted = k .0;
           wrote = rw out-is (take-append-seam (plain log) (drop (length (plain log)) out));
           long = k .1;

@@ -14,7 +14,8 @@ use Rattle.judge.specs.declared.Verdict.the-variants.{Same, Different}
 -- the log has replayed without refusal, its readings are in out, and the transcript ts is as long as they are
 pub record Ready (log : List ℕ) (start : ℕ) (out ts : List ℕ) : Type 0 where
   pub records : ℕ
-  pub found : trailerOf log ≡ Found start records
+  pub edition : ℕ
+  pub found : trailerOf log ≡ Found start records edition
   pub within : start + 16 * records ≤ length log
   pub accepted : courseOf log ≡ going
   pub wrote : take (length (plain log)) out ≡ plain log

@@ -10,7 +10,7 @@ use Rattle.fold.specs.Turn.{Turn, retell}
 use Rattle.fold.specs.Run.{Course, going, stopped, runOf}
 use Rattle.fold.specs.Output.{bytesOf}
 use Rattle.wire.specs.Bytes.{byte, leBytes}
-use Rattle.wire.specs.Trailer.{recordsOf}
+use Rattle.wire.specs.Trailer.{recordsOf, editionIn}
 use Rattle.bank.specs.declared.Bank.{Bank}
 use Rattle.bank.specs.Bank.{fresh}
 use Rattle.replay.specs.Replay.{turnOf, replayOf}
@@ -34,10 +34,10 @@ abbrev pub transcriptBy : (Bank → List ℕ → Turn Bank ℕ) → List ℕ →
 transcriptBy turn log = bytesOf (leBytes 8) (runOf turn fresh (recordsOf log) .readings)
 
 abbrev pub plain : List ℕ → List ℕ
-plain log = transcriptBy turnOf log
+plain log = transcriptBy (turnOf (editionIn log)) log
 
 abbrev pub opposite : List ℕ → List ℕ
-opposite log = transcriptBy (negating turnOf) log
+opposite log = transcriptBy (negating (turnOf (editionIn log))) log
 
 -- how the log's replay ends, with room for each of its readings, so that "6 is not given here"
 abbrev pub courseOf : List ℕ → Course

@@ -1,4 +1,4 @@
--- Many ticks at once: the steps in them, and the ticks left over.
+-- Many ticks at once, by either rule: the steps in them, and the ticks left over.
 -- Assumes nothing.
 use mathlib.Core.Path.{_≡_, refl, sym, ap, _∙_}
 use mathlib.Core.Bool.{Bool}
@@ -19,38 +19,38 @@ use Rattle.pwm.specs.How.{at, left, moved, often, stepsOf}
 use Rattle.pwm.specs.Facts.{Short}
 
 -- a wait in two parts
-pub waited-add : (a b : ℕ) (g : Registers) (w : Wave) → waited (a + b) g w ≡ waited a g (waited b g w)
+pub waited-add : (runs : Bool) (a b : ℕ) (g : Registers) (w : Wave) → waited runs (a + b) g w ≡ waited runs a g (waited runs b g w)
 unfolding waited
-waited-add zero b g w = rw (zero-add b)
-waited-add (suc a) b g w = rw (suc-add a b) (ap (ticked g) (waited-add a b g w))
+waited-add runs zero b g w = rw (zero-add b)
+waited-add runs (suc a) b g w = rw (suc-add a b) (ap (ticked runs g) (waited-add runs a b g w))
 
-waited-off : (t : ℕ) (g : Registers) (w : Wave) → dividerOf (g .cs) ≡ 0 → waited t g w ≡ w
+waited-off : (runs : Bool) (t : ℕ) (g : Registers) (w : Wave) → dividerOf (g .cs) ≡ 0 → waited runs t g w ≡ w
 unfolding waited ticked
-waited-off zero g w e = refl
-waited-off (suc t) g w e = rw e (waited-off t g w e)
+waited-off runs zero g w e = refl
+waited-off runs (suc t) g w e = rw e (waited-off runs t g w e)
 
 -- "CS 0 is off"
-pub stands : (t : ℕ) (p : Pwm) → p .registers .cs ≡ 0 → onTicks t p ≡ p
-stands t p e = ap (moved p) (waited-off t (p .registers) (p .wave) (ap dividerOf e))
+pub stands : (runs : Bool) (t : ℕ) (p : Pwm) → p .registers .cs ≡ 0 → onTicks runs t p ≡ p
+stands runs t p e = ap (moved p) (waited-off runs t (p .registers) (p .wave) (ap dividerOf e))
 
 -- the steps look at no remainder
-alike : (g : Registers) (w : Wave) (x q r : ℕ) → stepsOf q r g (left x w) ≡ stepsOf q r g w
+alike : (runs : Bool) (g : Registers) (w : Wave) (x q r : ℕ) → stepsOf runs q r g (left x w) ≡ stepsOf runs q r g w
 unfolding often
-alike g w x zero r = refl
-alike g w x (suc q) r = ap (λ (v : Wave). left r (stepped g v)) (alike g w x q 0)
+alike runs g w x zero r = refl
+alike runs g w x (suc q) r = ap (λ (v : Wave). left r (stepped runs g v)) (alike runs g w x q 0)
 
 -- with N at hand
-module _ (g : Registers) (n : ℕ) (divides : n ≡ dividerOf (g .cs)) (on : 0 < n) where
-  tick-more : (c r : ℕ) (o : Bool) → suc r < n → ticked g (at c r o) ≡ at c (suc r) o
+module _ (runs : Bool) (g : Registers) (n : ℕ) (divides : n ≡ dividerOf (g .cs)) (on : 0 < n) where
+  tick-more : (c r : ℕ) (o : Bool) → suc r < n → ticked runs g (at c r o) ≡ at c (suc r) o
   unfolding ticked
   tick-more c r o h = rw (← divides, ne-eqb n 0 (λ e. omega arith), add-one r, lt-ltb (suc r) n h)
 
-  tick-full : (c r : ℕ) (o : Bool) → n ≤ r + 1 → ticked g (at c r o) ≡ stepped g (at c r o)
+  tick-full : (c r : ℕ) (o : Bool) → n ≤ r + 1 → ticked runs g (at c r o) ≡ stepped runs g (at c r o)
   unfolding ticked
   tick-full c r o h = rw (← divides, ne-eqb n 0 (λ e. omega arith), le-ltb (r + 1) n h)
 
   -- t ticks make q steps, and leave r
-  counts : (w : Wave) → w .remainder < n → (t q r : ℕ) → q * n + r ≡ w .remainder + t → r < n → waited t g w ≡ stepsOf q r g w
+  counts : (w : Wave) → w .remainder < n → (t q r : ℕ) → q * n + r ≡ w .remainder + t → r < n → waited runs t g w ≡ stepsOf runs q r g w
   unfolding waited often
   counts w k zero zero r e h =
       let z : r ≡ w .remainder = omega (arith, zero-mul n) in
@@ -58,14 +58,14 @@ module _ (g : Registers) (n : ℕ) (divides : n ≡ dividerOf (g .cs)) (on : 0 <
   counts w k zero (suc q) r e h = absurd (omega (arith, suc-mul q n))
   counts w k (suc t) zero zero e h = absurd (omega (arith, zero-mul n))
   counts w k (suc t) (suc q) zero e h =
-      ap (ticked g) (counts w k t q (n - 1) (omega (arith, suc-mul q n)) (omega arith)) ∙ tick-full _ (n - 1) _ (omega arith)
-  counts w k (suc t) q (suc r) e h = ap (ticked g) (counts w k t q r (omega arith) (omega arith)) ∙ tick-more _ r _ h
+      ap (ticked runs g) (counts w k t q (n - 1) (omega (arith, suc-mul q n)) (omega arith)) ∙ tick-full _ (n - 1) _ (omega arith)
+  counts w k (suc t) q (suc r) e h = ap (ticked runs g) (counts w k t q r (omega arith) (omega arith)) ∙ tick-more _ r _ h
 
 -- ---- what the code makes of t ticks
 
 -- CS 0, whose place wraps, and what lies above 7
-pub off : (q : Pwm) (place t : ℕ) → (place + 1) % 2 ^ 16 ≡ q .registers .cs → place < 2 ^ 16 → 6 < place → q ≡ onTicks t q
-off q place t e h k = ap (moved q) (sym (waited-off t (q .registers) (q .wave) (by (decLe 1 (q .registers .cs)))))
+pub off : (runs : Bool) (q : Pwm) (place t : ℕ) → (place + 1) % 2 ^ 16 ≡ q .registers .cs → place < 2 ^ 16 → 6 < place → q ≡ onTicks runs t q
+off runs q place t e h k = ap (moved q) (sym (waited-off runs t (q .registers) (q .wave) (by (decLe 1 (q .registers .cs)))))
   where
     by : Dec (1 ≤ q .registers .cs) → dividerOf (q .registers .cs) ≡ 0
     by (yes l) = rw (le-ltb (q .registers .cs) 1 l, lt-ltb 7 (q .registers .cs) (omega arith))
@@ -102,7 +102,7 @@ module _ (q : Pwm) (place t : ℕ) (on : place ≤ 6) (e : (place + 1) % 2 ^ 16 
   pub rest-fits : m - m / 2 ^ place * 2 ^ place % 2 ^ 64 < 2 ^ 8
   rest-fits = omega (arith, is-rest, mod-lt m some, few)
 
-  pub wait : (p : Pwm) → p ≡ moved q (stepsOf (m / 2 ^ place) (m - m / 2 ^ place * 2 ^ place % 2 ^ 64) (q .registers) (q .wave)) → p ≡ onTicks t q
-  wait p f =
+  pub wait : (runs : Bool) (p : Pwm) → p ≡ moved q (stepsOf runs (m / 2 ^ place) (m - m / 2 ^ place * 2 ^ place % 2 ^ 64) (q .registers) (q .wave)) → p ≡ onTicks runs t q
+  wait runs p f =
       rw (f, is-rest)
-      (ap (moved q) (sym (counts (q .registers) (2 ^ place) (sym two) some (q .wave) (omega (arith, two, some)) t _ (m % 2 ^ place) whole (mod-lt m some))))
+      (ap (moved q) (sym (counts runs (q .registers) (2 ^ place) (sym two) some (q .wave) (omega (arith, two, some)) t _ (m % 2 ^ place) whole (mod-lt m some))))

@@ -20,13 +20,13 @@ abbrev pub moved : Pwm → Wave → Pwm
 moved p w = record { registers = p .registers; wave = w }
 
 -- s steps
-unfoldable pub often : ℕ → Registers → Wave → Wave
-often zero g w = w
-often (suc s) g w = stepped g (often s g w)
+unfoldable pub often : Bool → ℕ → Registers → Wave → Wave
+often runs zero g w = w
+often runs (suc s) g w = stepped runs g (often runs s g w)
 
 -- s steps, and r ticks left over
-abbrev pub stepsOf : ℕ → ℕ → Registers → Wave → Wave
-stepsOf s r g w = left r (often s g w)
+abbrev pub stepsOf : Bool → ℕ → ℕ → Registers → Wave → Wave
+stepsOf runs s r g w = left r (often runs s g w)
 
 -- MODE 1: the counter gone up to k, where CMP may lie on the way
 abbrev pub climbed : Registers → ℕ → ℕ → Wave → Wave
@@ -37,5 +37,5 @@ abbrev pub wrapped : Registers → ℕ → ℕ → Wave
 wrapped g k r = at k r (cond (leb (g .cmp) k) (inv (g .cnfg)) (not (inv (g .cnfg))))
 
 -- MODE 1: how many steps there are to 0
-abbrev pub untilZero : ℕ → ℕ → ℕ
-untilZero counter max = cond (ltb max counter) 1 (max - counter + 1)
+abbrev pub untilZero : Bool → ℕ → ℕ → ℕ
+untilZero runs counter max = cond (ltb max counter) (cond runs (65536 - counter) 1) (max - counter + 1)

@@ -1,4 +1,4 @@
--- One PWM channel, as paper 01 has it: its registers, and what ticks move.
+-- One PWM channel, as paper 01 has it: its registers, and what ticks move, by either edition's rule.
 -- Assumes nothing.
 use Prim.Native.Nat.{ℕ, zero, suc, _+_}
 use mathlib.Core.Bool.{Bool, false, not, cond, _&&_}
@@ -18,9 +18,14 @@ mode cnfg = bit 2 cnfg
 
 -- ---- a tick
 
--- "A step goes to 0 if the counter is at or above the top, else adds 1; the top is MAX in MODE 1, 65,535 in MODE 0"
-abbrev pub nextOf : Registers → ℕ → ℕ
-nextOf g counter = cond (leb (cond (mode (g .cnfg)) (g .max) 65535) counter) 0 (counter + 1)
+-- "the top is MAX in MODE 1, 65,535 in MODE 0"; by paper 02 (e), in an edition whose counter runs on, "a PWM counter that stands
+-- above MAX runs on to 65,535"
+abbrev pub topOf : Bool → Registers → ℕ → ℕ
+topOf runs g counter = cond (mode (g .cnfg) && not (runs && ltb (g .max) counter)) (g .max) 65535
+
+-- "A step goes to 0 if the counter is at or above the top, else adds 1"
+abbrev pub nextOf : Bool → Registers → ℕ → ℕ
+nextOf runs g counter = cond (leb (topOf runs g counter) counter) 0 (counter + 1)
 
 -- "In MODE 1, INV 0, arriving at 0 sets the output, then arriving at CMP clears it; INV 1 swaps set and clear"
 abbrev pub arrived : Registers → ℕ → Bool → Bool
@@ -28,22 +33,22 @@ arrived g counter output = cond (mode (g .cnfg))
     (cond (eqb counter (g .cmp)) (inv (g .cnfg)) (cond (eqb counter 0) (not (inv (g .cnfg))) output)) output
 
 -- "at N the remainder is 0 and the counter steps"
-abbrev pub stepped : Registers → Wave → Wave
-stepped g w = let next = nextOf g (w .counter) in record { counter = next; remainder = 0; output = arrived g next (w .output) }
+abbrev pub stepped : Bool → Registers → Wave → Wave
+stepped runs g w = let next = nextOf runs g (w .counter) in record { counter = next; remainder = 0; output = arrived g next (w .output) }
 
 -- "With CS 0 a tick does nothing. Otherwise a tick adds one to a remainder; at N the remainder is 0 and the counter steps"
-unfoldable pub ticked : Registers → Wave → Wave
-ticked g w = cond (eqb (dividerOf (g .cs)) 0) w
+unfoldable pub ticked : Bool → Registers → Wave → Wave
+ticked runs g w = cond (eqb (dividerOf (g .cs)) 0) w
     (cond (ltb (w .remainder + 1) (dividerOf (g .cs)))
-    (record { counter = w .counter; remainder = w .remainder + 1; output = w .output }) (stepped g w))
+    (record { counter = w .counter; remainder = w .remainder + 1; output = w .output }) (stepped runs g w))
 
 -- "A record of t ticks is t single ticks"
-unfoldable pub waited : ℕ → Registers → Wave → Wave
-waited zero g w = w
-waited (suc t) g w = ticked g (waited t g w)
+unfoldable pub waited : Bool → ℕ → Registers → Wave → Wave
+waited runs zero g w = w
+waited runs (suc t) g w = ticked runs g (waited runs t g w)
 
-abbrev pub onTicks : ℕ → Pwm → Pwm
-onTicks t p = record { registers = p .registers; wave = waited t (p .registers) (p .wave) }
+abbrev pub onTicks : Bool → ℕ → Pwm → Pwm
+onTicks runs t p = record { registers = p .registers; wave = waited runs t (p .registers) (p .wave) }
 
 -- ---- a write of register 0 CNFG, 1 CS, 2 MAX or 3 CMP: "No other write moves counter or output"
 

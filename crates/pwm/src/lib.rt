@@ -39,11 +39,14 @@ fn mode(cnfg: u16) -> bool
     cnfg / 4 % 2 == 1
 }
 
-// How many steps there are to 0. From above MAX it is one.
-fn until_zero(counter: u16, max: u16) -> u32
-    ensures { λ r. ⌜ r ≡ untilZero counter max ⌝ }
+// How many steps there are to 0. From above MAX it is one, or by the newer rule the way on to 65,535 and the step from there.
+fn until_zero(runs: bool, counter: u16, max: u16) -> u32
+    ensures { λ r. ⌜ r ≡ untilZero runs counter max ⌝ }
 {
     if max < counter {
+        if runs {
+            return 65536 - counter as u32;
+        }
         return 1;
     }
     (max - counter) as u32 + 1
@@ -101,11 +104,11 @@ impl Pwm {
     }
 
     // s steps in MODE 1. The output depends only on the way since the counter was last 0.
-    fn in_mode_1(self, s: u32, r: u8) -> Pwm
+    fn in_mode_1(self, runs: bool, s: u32, r: u8) -> Pwm
         requires { ⌜ mode (self .registers .cnfg) ≡ true ⌝ }
-        ensures { λ p. ⌜ p ≡ moved self (stepsOf s r (self .registers) (self .wave)) ⌝ }
+        ensures { λ p. ⌜ p ≡ moved self (stepsOf runs s r (self .registers) (self .wave)) ⌝ }
     {
-        let room = until_zero(self.wave.counter, self.registers.max);
+        let room = until_zero(runs, self.wave.counter, self.registers.max);
         if s < room {
             return self.climbed((self.wave.counter as u32 + s) as u16, r);
         }
@@ -113,11 +116,11 @@ impl Pwm {
     }
 
     // s steps, and the remainder that is left.
-    fn steps(self, s: u32, r: u8) -> Pwm
-        ensures { λ p. ⌜ p ≡ moved self (stepsOf s r (self .registers) (self .wave)) ⌝ }
+    fn steps(self, runs: bool, s: u32, r: u8) -> Pwm
+        ensures { λ p. ⌜ p ≡ moved self (stepsOf runs s r (self .registers) (self .wave)) ⌝ }
     {
         if mode(self.registers.cnfg) {
-            return self.in_mode_1(s, r);
+            return self.in_mode_1(runs, s, r);
         }
         let end = wrapping_add_u16(self.wave.counter, (s % 65536) as u16);
         self.moved(end, r, self.wave.output)
@@ -125,9 +128,9 @@ impl Pwm {
 
     // A record of t ticks. CS 1 to 7 have the places 0 to 6 in the divider table; CS 0 wraps to none. N is two to the power of its place
     // (divider/proofs/Powers.antt), so that a shift divides by it.
-    pub fn ticks(self, t: u32) -> Pwm
+    pub fn ticks(self, runs: bool, t: u32) -> Pwm
         requires { ⌜ Short self ⌝ }
-        ensures { λ p. ⌜ p ≡ onTicks t self ⌝ }
+        ensures { λ p. ⌜ p ≡ onTicks runs t self ⌝ }
     {
         let place = wrapping_sub_u16(self.registers.cs, 1);
         if 6 < place {
@@ -135,7 +138,7 @@ impl Pwm {
         }
         let m = self.wave.remainder as u64 + t as u64;
         let s = m >> (place as u64);
-        self.steps(s as u32, (m - (s << (place as u64))) as u8)
+        self.steps(runs, s as u32, (m - (s << (place as u64))) as u8)
     }
 
     fn write_cnfg(self, v: u16) -> Pwm

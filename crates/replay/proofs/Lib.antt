@@ -1,4 +1,5 @@
 mod Ways
+mod Replaying
 mod Reached
 mod Whole
 pub mod Numbers

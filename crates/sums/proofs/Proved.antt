@@ -1,7 +1,8 @@
 -- The sums of specs/Paper.antt: the rates' by the law of the finder at these numbers, in millihertz by the theorem that they are the same
 -- there, the others computed.
 -- Assumes nothing.
-use mathlib.Core.Path.{refl}
+use mathlib.Core.Path.{_≡_, refl}
+use mathlib.Core.Bool.{Bool, true, false}
 use Prim.Native.Nat.{ℕ, _*_}
 use Rattle.rate.specs.declared.Found.the-variants.{Pair, Refused}
 use Rattle.rate.specs.Rate.{pwm, spi, period}
@@ -9,8 +10,8 @@ use Rattle.rate.specs.Facts.{hertzPwm, hertzSpi, Gives}
 use Rattle.rate.proofs.Answers.{fair-hertz-pwm, fair-hertz-spi, found-right}
 use Rattle.rate.proofs.Proved.{thousandfold-pwm, thousandfold-spi}
 use Rattle.encoder.specs.Encoder.{statOf}
-use Rattle.pwm.specs.Pwm.{ticked, waited}
-use Rattle.sums.specs.Paper.{RateSums, PaperSums}
+use Rattle.pwm.specs.Pwm.{ticked, waited, onTicks}
+use Rattle.sums.specs.Paper.{started, RateSums, PaperSums}
 use Rattle.sums.specs.Ours.{OurSums}
 
 in-hertz : RateSums 1 hertzPwm hertzSpi
@@ -54,6 +55,16 @@ in-millihertz = record {
   spi-3650000-86758 = milli-spi (in-hertz .spi-3650000-86758);
 }
 
+ticks-1 : (runs : Bool) → (onTicks runs 5 (started 1) .wave .counter ≡ 1) × (onTicks runs 5 (started 1) .wave .output ≡ true)
+unfolding ticked waited
+ticks-1 true = (refl, refl)
+ticks-1 false = (refl, refl)
+
+ticks-2 : (runs : Bool) → (onTicks runs 5 (started 2) .wave .counter ≡ 2) × (onTicks runs 5 (started 2) .wave .remainder ≡ 1)
+unfolding ticked waited
+ticks-2 true = (refl, refl)
+ticks-2 false = (refl, refl)
+
 pub paper-sums : PaperSums
 unfolding statOf ticked waited
 paper-sums = record {
@@ -62,10 +73,17 @@ paper-sums = record {
   pins-forward = refl;
   pins-backward = refl;
   pins-double = (refl, refl);
-  ticks-1 = (refl, refl);
-  ticks-2 = (refl, refl);
+  ticks-1 = ticks-1;
+  ticks-2 = ticks-2;
 }
 
 pub our-sums : OurSums
-unfolding statOf
-our-sums = record { down = refl; down-and-up = refl; signed-down = refl }
+unfolding statOf ticked waited
+our-sums = record {
+  down = refl;
+  down-and-up = refl;
+  signed-down = refl;
+  goes-to-0 = refl;
+  runs-on = (refl, refl);
+  at-the-end = refl;
+}

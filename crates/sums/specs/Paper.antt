@@ -2,7 +2,7 @@
 -- Assumes nothing.
 use Prim.Native.Nat.{ℕ, _*_}
 use mathlib.Core.Path.{_≡_}
-use mathlib.Core.Bool.{true}
+use mathlib.Core.Bool.{Bool, true}
 use mathlib.Core.List.{[], _∷_}
 use lib.IntN.{pos}
 use Rattle.rate.specs.declared.Rule.{Rule}
@@ -22,7 +22,7 @@ enabled = encoder.onCnfg 1 encoder.fresh
 
 -- a fresh PWM channel with a CS, MODE 1, MAX 3, CMP 2
 abbrev pub started : ℕ → Pwm
-started cs = channel.onCmp 2 (channel.onMax 3 (channel.onCnfg 4 (channel.onCs cs channel.fresh)))
+started cs = channel.onWrite 3 2 (channel.onWrite 2 3 (channel.onWrite 0 4 (channel.onWrite 1 cs channel.fresh)))
 
 -- those of the rates, by rules whose unit is one part in k of a hertz
 pub record RateSums (k : ℕ) (pwm spi : Rule) : Type 0 where
@@ -53,7 +53,7 @@ pub record PaperSums : Type 0 where
   pub pins-backward : encoder.registerOf 2 (played (0 ∷ 2 ∷ 3 ∷ 1 ∷ 0 ∷ []) enabled) ≡ 4_294_967_292
   -- "00, 11: count 0, ERR 1"
   pub pins-double : (played (0 ∷ 3 ∷ []) enabled .count ≡ pos 0) × (bit 1 (played (0 ∷ 3 ∷ []) enabled .stat) ≡ true)
-  -- "Fresh PWM, CS 1, MODE 1, MAX 3, CMP 2, 5 ticks: counter 1, output 1"
-  pub ticks-1 : (channel.onTicks 5 (started 1) .wave .counter ≡ 1) × (channel.onTicks 5 (started 1) .wave .output ≡ true)
+  -- by either rule of the counter: "Fresh PWM, CS 1, MODE 1, MAX 3, CMP 2, 5 ticks: counter 1, output 1"
+  pub ticks-1 : (runs : Bool) → (channel.onTicks runs 5 (started 1) .wave .counter ≡ 1) × (channel.onTicks runs 5 (started 1) .wave .output ≡ true)
   -- "CS 2 and 5 ticks: two steps, remainder 1"
-  pub ticks-2 : (channel.onTicks 5 (started 2) .wave .counter ≡ 2) × (channel.onTicks 5 (started 2) .wave .remainder ≡ 1)
+  pub ticks-2 : (runs : Bool) → (channel.onTicks runs 5 (started 2) .wave .counter ≡ 2) × (channel.onTicks runs 5 (started 2) .wave .remainder ≡ 1)

@@ -15,6 +15,7 @@ use Rattle.fold.specs.Output.{bytesOf, over, outputOf}
 use Rattle.fold.specs.Device.{records}
 use Rattle.fold.proofs.Laws as laws
 use Rattle.fold.proofs.Runs.{first-applied, goes-applies}
+use Rattle.edition.specs.declared.Edition.{Edition}
 use Rattle.encoder.specs.Count.{pattern, signed, wrap}
 use Rattle.encoder.specs.Encoder.{countsInQuadrature, statOf}
 use Rattle.encoder.proofs.Wrap.{pattern-lt, pattern-wrap, pattern-add-wrap, wrap-fits}
@@ -23,7 +24,7 @@ use Rattle.shaft.proofs.Balance.{AllPins}
 use Rattle.shaft.proofs.Motions.{gaps, sign}
 use Rattle.select.specs.Select.{fieldOf, some, encoderRouted}
 use Rattle.wire.specs.Bytes.{leOf, leBytes, readsIn}
-use Rattle.wire.specs.Trailer.{trailerOf, recordsAt, recordsOf}
+use Rattle.wire.specs.Trailer.{trailerOf, recordsAt, recordsOf, editionIn}
 use Rattle.wire.specs.Record.{decodeOf, namedOf, writeOf, readOf}
 use Rattle.wire.specs.declared.Trailer.{Trailer}
 use Rattle.wire.specs.declared.Trailer.the-variants.{Found, Refused as NoTrailer}
@@ -70,43 +71,43 @@ demand vs first last a counted = record {
 
 -- ---- any run, from any sound bank
 
-all-sound : (rs : List (List ℕ)) → Sound (played rs .state)
-all-sound rs = laws.keeps turnOf Sound sound-turn fresh rs sound-fresh
+all-sound : (o : Edition) (rs : List (List ℕ)) → Sound (played o rs .state)
+all-sound o rs = laws.keeps (turnOf o) Sound (sound-turn o) fresh rs sound-fresh
 
 -- at encoder i a run is the encoder's own
-follows : (i : ℕ) → i < 10 → (b : Bank) (rs : List (List ℕ)) → Sound b → runOf turnOf b rs .course ≡ going
-    → view i (runOf turnOf b rs .state) ≡ foldl onEvent (view i b) (map (eventAt i) rs)
-follows i h b rs s goes = laws.seen-by turnOf Sound sound-turn (view i) (eventAt i) onEvent (turn-view i h) b rs s goes
+follows : (o : Edition) (i : ℕ) → i < 10 → (b : Bank) (rs : List (List ℕ)) → Sound b → runOf (turnOf o) b rs .course ≡ going
+    → view i (runOf (turnOf o) b rs .state) ≡ foldl onEvent (view i b) (map (eventAt i) rs)
+follows o i h b rs s goes = laws.seen-by (turnOf o) Sound (sound-turn o) (view i) (eventAt i) onEvent (turn-view o i h) b rs s goes
 
-from-bank : (i : ℕ) (b : Bank) (r : List ℕ) (rs : List (List ℕ)) → Sound b → names 3 1 i r ≡ true
-    → countsInQuadrature (encoderRouted (b .select) i) (encoderAt i b .cnfg) ≡ true → undisturbed i rs ≡ true → runOf turnOf b (r ∷ rs) .course ≡ going
-    → Demand (pinsIn i (r ∷ rs)) (encoderAt i (runOf turnOf b (r ∷ []) .state) .count) (encoderAt i (runOf turnOf b (r ∷ rs) .state) .count)
-from-bank i b r rs sound begins counts calm goes =
+from-bank : (o : Edition) (i : ℕ) (b : Bank) (r : List ℕ) (rs : List (List ℕ)) → Sound b → names 3 1 i r ≡ true
+    → countsInQuadrature (encoderRouted (b .select) i) (encoderAt i b .cnfg) ≡ true → undisturbed i rs ≡ true → runOf (turnOf o) b (r ∷ rs) .course ≡ going
+    → Demand (pinsIn i (r ∷ rs)) (encoderAt i (runOf (turnOf o) b (r ∷ []) .state) .count) (encoderAt i (runOf (turnOf o) b (r ∷ rs) .state) .count)
+from-bank o i b r rs sound begins counts calm goes =
     let v = leOf 8 r 8 in
     let c = view i b in
-    let goes-first = laws.first-goes turnOf b (r ∷ []) rs goes in
-    let within = formed r (Pins i v) (turn-pins i b r begins (goes-applies turnOf b r goes-first)) .1 in
+    let goes-first = laws.first-goes (turnOf o) b (r ∷ []) rs goes in
+    let within = formed r (Pins i v) (turn-pins o i b r begins (goes-applies (turnOf o) b r goes-first)) .1 in
     let ready = first-ready c v counts (sound .ranges i .count) in
-    let first = follows i within b (r ∷ []) sound goes-first in
-    let last = follows i within b (r ∷ rs) sound goes in
+    let first = follows o i within b (r ∷ []) sound goes-first in
+    let last = follows o i within b (r ∷ rs) sound goes in
     let is : eventAt i r ≡ pins v = rw begins in
     let shows : v ∷ pinsAmong (map (eventAt i) rs) ≡ pinsIn i (r ∷ rs) = sym (rw begins (ap (λ (l : List ℕ). v ∷ l) (pins-among i rs))) in
     let counted = counting (onEvent c (pins v)) v (map (eventAt i) rs) ready (all-quiet i rs calm) in
-    demand _ _ _ (all-pins i b (r ∷ rs) goes)
+    demand _ _ _ (all-pins o i b (r ∷ rs) goes)
     (ap (λ (d : Channel). d .encoder .count) (last ∙ ap (λ (x : Event). foldl onEvent (onEvent c x) (map (eventAt i) rs)) is)
     ∙ counted
     ∙ ap (λ (x : Event). wrap (onEvent c x .encoder .count +ℤ steps (v ∷ pinsAmong (map (eventAt i) rs)))) (sym is)
     ∙ ap (λ (d : Channel). wrap (d .encoder .count +ℤ steps (v ∷ pinsAmong (map (eventAt i) rs)))) (sym first)
-    ∙ ap (λ (vs : List ℕ). wrap (encoderAt i (runOf turnOf b (r ∷ []) .state) .count +ℤ steps vs)) shows)
+    ∙ ap (λ (vs : List ℕ). wrap (encoderAt i (runOf (turnOf o) b (r ∷ []) .state) .count +ℤ steps vs)) shows)
 
 pub demand-of-runs : DemandOfRuns
-demand-of-runs i before r rs st =
-    let b = played before .state in
+demand-of-runs o i before r rs st =
+    let b = played o before .state in
     let goes = st .applied in
-    let goes-first = laws.first-goes turnOf fresh (before ++ r ∷ []) rs (ap (λ (l : List (List ℕ)). played l .course) (append-assoc before (r ∷ []) rs) ∙ goes) in
-    subst (λ (x : Bank). Demand (pinsIn i (r ∷ rs)) (encoderAt i x .count) (encoderAfter i (before ++ r ∷ rs) .count)) (sym (laws.rest-state turnOf fresh before (r ∷ []) goes-first))
-    (subst (λ (x : Bank). Demand (pinsIn i (r ∷ rs)) (encoderAt i (runOf turnOf b (r ∷ []) .state) .count) (encoderAt i x .count)) (sym (laws.rest-state turnOf fresh before (r ∷ rs) goes))
-    (from-bank i b r rs (all-sound before) (st .begins) (st .counts) (st .calm) (laws.rest-goes turnOf fresh before (r ∷ rs) goes)))
+    let goes-first = laws.first-goes (turnOf o) fresh (before ++ r ∷ []) rs (ap (λ (l : List (List ℕ)). played o l .course) (append-assoc before (r ∷ []) rs) ∙ goes) in
+    subst (λ (x : Bank). Demand (pinsIn i (r ∷ rs)) (encoderAt i x .count) (encoderAfter o i (before ++ r ∷ rs) .count)) (sym (laws.rest-state (turnOf o) fresh before (r ∷ []) goes-first))
+    (subst (λ (x : Bank). Demand (pinsIn i (r ∷ rs)) (encoderAt i (runOf (turnOf o) b (r ∷ []) .state) .count) (encoderAt i x .count)) (sym (laws.rest-state (turnOf o) fresh before (r ∷ rs) goes))
+    (from-bank o i b r rs (all-sound o before) (st .begins) (st .counts) (st .calm) (laws.rest-goes (turnOf o) fresh before (r ∷ rs) goes)))
 
 -- ---- a log
 
@@ -114,7 +115,7 @@ pub demand-of-logs : DemandOfLogs
 demand-of-logs i log r before rs later cut st =
     let short : length (r ∷ rs) < 2048 =
     omega (arith, rw cut at (few-records log), length-append (before ++ r ∷ rs) later, length-append before (r ∷ rs)) in
-    demand-of-runs i before r rs st .difference (omega (arith, few i (r ∷ rs)))
+    demand-of-runs (editionIn log) i before r rs st .difference (omega (arith, few i (r ∷ rs)))
 
 -- ---- the output's bytes
 
@@ -130,46 +131,46 @@ bytes-at (w ∷ vs) v ws rest h =
     ∙ le-behind 8 (leBytes 8 w) (more ++ rest) (8 * length vs)
     ∙ bytes-at vs v ws rest h
 
-module _ (i : ℕ) (q : List ℕ) (names : decodeOf q ≡ Names (ReadEncoder i 2)) where
-  asks-cntr : (b : Bank) → turnOf b q ≡ reads (pattern (encoderAt i b .count))
+module _ (o : Edition) (i : ℕ) (q : List ℕ) (names : decodeOf q ≡ Names (ReadEncoder i 2)) where
+  asks-cntr : (b : Bank) → turnOf o b q ≡ reads (pattern (encoderAt i b .count))
   unfolding turnOf bank.turnOf
-  asks-cntr b = ap (decodedTurn b) names
+  asks-cntr b = ap (decodedTurn o b) names
 
   -- the readings of a run that goes on to q, wherever the rest leads
-  reads-next : (rs later : List (List ℕ)) → played rs .course ≡ going
-      → (ws : List ℕ) × (played (rs ++ q ∷ later) .readings ≡ played rs .readings ++ pattern (encoderAfter i rs .count) ∷ ws)
+  reads-next : (rs later : List (List ℕ)) → played o rs .course ≡ going
+      → (ws : List ℕ) × (played o (rs ++ q ∷ later) .readings ≡ played o rs .readings ++ pattern (encoderAfter o i rs .count) ∷ ws)
   reads-next rs later goes =
-      let b = played rs .state in
-      let first = first-applied turnOf b q later (ap applies (asks-cntr b)) ∙ ap (λ (t : Turn Bank ℕ). after 1 (given t) (runOf turnOf (leaves b t) later)) (asks-cntr b) in (
-        runOf turnOf b later .readings,
-        ap (λ (x : Run Bank ℕ). x .readings) (laws.cut-in-two turnOf fresh rs (q ∷ later) goes) ∙ ap (λ (x : Run Bank ℕ). played rs .readings ++ x .readings) first,
+      let b = played o rs .state in
+      let first = first-applied (turnOf o) b q later (ap applies (asks-cntr b)) ∙ ap (λ (t : Turn Bank ℕ). after 1 (given t) (runOf (turnOf o) (leaves b t) later)) (asks-cntr b) in (
+        runOf (turnOf o) b later .readings,
+        ap (λ (x : Run Bank ℕ). x .readings) (laws.cut-in-two (turnOf o) fresh rs (q ∷ later) goes) ∙ ap (λ (x : Run Bank ℕ). played o rs .readings ++ x .readings) first,
       )
 
-  reads-bytes : (rs later : List (List ℕ)) (out : List ℕ) → played rs .course ≡ going
-      → leOf 8 (written (played (rs ++ q ∷ later)) out) (8 * length (played rs .readings)) ≡ pattern (encoderAfter i rs .count)
+  reads-bytes : (rs later : List (List ℕ)) (out : List ℕ) → played o rs .course ≡ going
+      → leOf 8 (written (played o (rs ++ q ∷ later)) out) (8 * length (played o rs .readings)) ≡ pattern (encoderAfter o i rs .count)
   unfolding outputOf over
   reads-bytes rs later out goes =
       let next = reads-next rs later goes in
-      ap (λ (l : List ℕ). leOf 8 (bytesOf (leBytes 8) l ++ drop (length (bytesOf (leBytes 8) l)) out) (8 * length (played rs .readings))) (next .1)
-      ∙ bytes-at (played rs .readings) (pattern (encoderAfter i rs .count)) (next .0) _ (omega (arith, pattern-lt (encoderAfter i rs .count)))
+      ap (λ (l : List ℕ). leOf 8 (bytesOf (leBytes 8) l ++ drop (length (bytesOf (leBytes 8) l)) out) (8 * length (played o rs .readings))) (next .1)
+      ∙ bytes-at (played o rs .readings) (pattern (encoderAfter o i rs .count)) (next .0) _ (omega (arith, pattern-lt (encoderAfter o i rs .count)))
 
 -- a log with records has a trailer, and with room it replays as their run
 plays : (log : List ℕ) (room : ℕ) (before : List (List ℕ)) (r : List ℕ) (rs : List (List ℕ)) → recordsOf log ≡ before ++ r ∷ rs
-    → 8 * readsIn (recordsOf log) ≤ room → replayOf log room ≡ played (before ++ r ∷ rs)
+    → 8 * readsIn (recordsOf log) ≤ room → replayOf log room ≡ played (editionIn log) (before ++ r ∷ rs)
 plays log room before r rs cut fits = by (trailerOf log) refl
   where
-    by : (t : Trailer) → trailerOf log ≡ t → replayOf log room ≡ played (before ++ r ∷ rs)
-    by (Found a n) e = replayed log a n room e fits ∙ ap played cut
+    by : (t : Trailer) → trailerOf log ≡ t → replayOf log room ≡ played (editionIn log) (before ++ r ∷ rs)
+    by (Found a n o) e = replayed log a n o room e fits ∙ ap (played (editionIn log)) cut
     by (NoTrailer k) e =
         let none : length (before ++ r ∷ rs) ≡ 0 = ap length (sym cut ∙ ap (λ (t : Trailer). recordsAt t log) e) in
         absurd (omega (arith, length-append before (r ∷ rs)))
 
 pub demand-of-outputs : DemandOfOutputs
 demand-of-outputs i log out r q before rs later cut st names room ps f =
-    let first = encoderAfter i (before ++ r ∷ []) .count in
-    ap (λ (x : Run Bank ℕ). leOf 8 (written x out) (8 * length (played (before ++ r ∷ rs) .readings))) (plays log (length out) (before ++ r ∷ rs) q later cut room)
-    ∙ reads-bytes i q names (before ++ r ∷ rs) later out (st .applied)
-    ∙ ap pattern (demand-of-runs i before r rs st .counted)
+    let first = encoderAfter (editionIn log) i (before ++ r ∷ []) .count in
+    ap (λ (x : Run Bank ℕ). leOf 8 (written x out) (8 * length (played (editionIn log) (before ++ r ∷ rs) .readings))) (plays log (length out) (before ++ r ∷ rs) q later cut room)
+    ∙ reads-bytes (editionIn log) i q names (before ++ r ∷ rs) later out (st .applied)
+    ∙ ap pattern (demand-of-runs (editionIn log) i before r rs st .counted)
     ∙ pattern-wrap (first +ℤ steps (pinsIn i (r ∷ rs)))
     ∙ ap pattern (split first (pinsIn i (r ∷ rs)) ps)
 

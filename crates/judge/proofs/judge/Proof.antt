@@ -25,6 +25,6 @@ judge-spec =
     (λ c κs.
     let f = c .before .before .before .before in
     let r = f .before .before .before .before .before .before .replay .ensures in
-    ready _ _ (length-replicate {A = ℕ} 16384 0) _ (r .0) _ _ _ _ refl (f .before .before .before .of-length .ensures) (f .before .before .first-of .ensures) _ _ (r .1) (f .before .if1 .left) _ _ _ (f .find .ensures) (c .before .before .start .given .1))
+    ready _ _ (length-replicate {A = ℕ} 16384 0) _ (r .0) _ _ _ _ refl (f .before .before .before .of-length .ensures) (f .before .before .first-of .ensures) _ _ (r .1) (f .before .if1 .left) _ _ _ _ (f .find .ensures) (c .before .before .start .given .1))
     (λ c. search no-trailer)
     (λ c. search needs))

@@ -1,0 +1,14 @@
+-- The editions, and what each turns on.
+-- Assumes nothing.
+use Prim.Native.Nat.{ℕ}
+use mathlib.Core.Bool.{Bool, _&&_}
+use lib.Dec.{ltb, leb}
+use Rattle.edition.specs.declared.Edition.{Edition}
+
+-- "Refusal 4 now means neither 1 nor 2"
+abbrev pub known : ℕ → Bool
+known number = leb 1 number && leb number 2
+
+-- "runs on to 65,535 and then goes to 0 .. edition 2. Edition 1 keeps document 01's step to 0"
+abbrev pub editionOf : ℕ → Edition
+editionOf number = record { runs = ltb 1 number }

@@ -1,0 +1,16 @@
+// The editions of the log's format: what each of them turns on.
+ghost use mathlib.Core.Path.{_≡_};
+ghost use Rattle.edition.specs.Edition.{editionOf};
+
+pub struct Edition {
+    // a PWM counter above MAX runs on to 65,535
+    pub runs: bool,
+}
+
+impl Edition {
+    pub fn of(number: u64) -> Edition
+        ensures { λ r. ⌜ r ≡ editionOf number ⌝ }
+    {
+        Edition { runs: number > 1 }
+    }
+}
