@@ -5,6 +5,7 @@ use mathlib.Core.List.{List, [], _∷_}
 use Prim.Native.Nat.{ℕ, zero, suc, _+_, _*_, _/_, _%_, _^_, _≤_, _<_}
 use mathlib.Core.Bool.{Bool, cond}
 use native.Mathlib.Omega.{arith}
+use native.Mathlib.Decide.{decLe}
 use native.Mathlib.Nat.{div-div-eq-div-mul, pow-suc}
 use lib.Dec.{eqb}
 use borrow.Author.Tests.{eq-eqb, ne-eqb}
@@ -17,7 +18,7 @@ use Rattle.pwm.specs.Pwm as pwm
 use Rattle.pwm.specs.Facts.{Short}
 use Rattle.select.specs.Select.{pwmRouted}
 use Rattle.select.specs.How.{ones}
-use Rattle.select.proofs.Routes.{routed-bit}
+use Rattle.select.proofs.Routes.{routed-bit, ones-small}
 use Rattle.bank.specs.declared.Bank.{Bank}
 use Rattle.bank.proofs.Full.{Full}
 use Rattle.bank.specs.Bank.{reroute, onSelect, tickRouted, onTicks}
@@ -94,3 +95,19 @@ module _ (runs : Bool) (t : ℕ) (b : Bank) where
 
     pub ticked-all : i ≤ 20 → 20 ≤ i → x ≡ onTicks runs t b
     ticked-all h k = here ∙ ap (with-pwms b) (front-all (tickRouted runs (b .select) t) (b .pwms) i 20 twenty h k)
+
+  -- where no bit is left, none of the channels that are left is routed
+  pub ticked-rest : (twenty : length (b .pwms) ≡ 20) (n : ℕ) (x : Bank) (i pins : ℕ) → i + n ≡ 20
+      → pins ≡ ones (b .select) / 2 ^ (2 * i) → pins ≡ 0 → x ≡ with-pwms b (front (tickRouted runs (b .select) t) 0 i (b .pwms)) → x ≡ onTicks runs t b
+  ticked-rest twenty zero x i pins e left z here = ticked-all twenty x i here (omega arith) (omega arith)
+  ticked-rest twenty (suc n) x i pins e left z here =
+      ticked-rest twenty n x (i + 1) (pins / 4) (omega arith) (pins-next twenty x i here pins left (omega arith)) (omega arith)
+      (ticked-skip twenty x i here pins left (omega arith) (λ o. omega arith))
+
+-- where one is left, there is a channel
+pub pins-some : (select pins i : ℕ) → pins ≡ ones select / 2 ^ (2 * i) → (pins ≡ 0 → ⊥) → i < 20
+pins-some select pins i e d = by (decLe 20 i)
+  where
+    by : Dec (20 ≤ i) → i < 20
+    by (yes h) = absurd (d (e ∙ ones-small select i h))
+    by (no h) = omega arith

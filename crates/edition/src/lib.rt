@@ -5,12 +5,17 @@ ghost use Rattle.edition.specs.Edition.{editionOf};
 pub struct Edition {
     // a PWM counter above MAX runs on to 65,535
     pub runs: bool,
+    // byte 4 of a record names one of two banks
+    pub banks: bool,
 }
 
 impl Edition {
     pub fn of(number: u64) -> Edition
         ensures { λ r. ⌜ r ≡ editionOf number ⌝ }
     {
-        Edition { runs: number > 1 }
+        Edition {
+            runs: number > 1,
+            banks: number > 1,
+        }
     }
 }

@@ -18,38 +18,38 @@ use Rattle.wire.specs.Bytes.{readsIn}
 use Rattle.wire.specs.Trailer.{trailerOf}
 use Rattle.wire.specs.declared.Trailer.{Trailer}
 use Rattle.wire.specs.declared.Trailer.the-variants.{Found, Refused}
-use Rattle.bank.specs.declared.Bank.{Bank}
-use Rattle.bank.specs.Bank.{fresh}
+use Rattle.banks.specs.declared.State.{State}
+use Rattle.banks.specs.State.{fresh, bothBanks}
 use Rattle.replay.specs.Replay.{turnOf, played, replayOf, written}
 use Rattle.rate.specs.Rate.{pwm, spi, Answer}
 use Rattle.rate.specs.declared.Found.the-variants.{Pair}
 
 -- a replay that gives refusals 1 to 6 where they are due, and goes on with the log's records by `run`
-abbrev pub runFrom : Trailer → (Edition → List (List ℕ) → Run Bank ℕ) → List ℕ → ℕ → Run Bank ℕ
+abbrev pub runFrom : Trailer → (Edition → List (List ℕ) → Run State ℕ) → List ℕ → ℕ → Run State ℕ
 runFrom (Refused k) run log room = halted fresh 0 [] k
 runFrom (Found a n e) run log room = let rs = records 16 n (drop a log) in
     cond (leb (8 * readsIn rs) room) (run (editionOf e) rs) (halted fresh 0 [] 6)
 
 -- it gives the answer and the output that `replay` promises
-abbrev pub Meets : (Edition → List (List ℕ) → Run Bank ℕ) → Type 0
+abbrev pub Meets : (Edition → List (List ℕ) → Run State ℕ) → Type 0
 Meets run = (log out : List ℕ) → let x = runFrom (trailerOf log) run log (length out) in
     let y = replayOf log (length out) in (stopOf x ≡ stopOf y) × (written x out ≡ written y out)
 
--- a bank whose counts are all 0
+-- a state whose counts are all 0
 abbrev pub uncounted : Encoder → Encoder
 uncounted e = record { count = pos 0; cnfg = e .cnfg; stat = e .stat; pins = e .pins; seen = e .seen }
 
-abbrev pub unmoved : Bank → Bank
-unmoved b = record { select = b .select; encoders = map uncounted (b .encoders); pwms = b .pwms; i2c = b .i2c }
+abbrev pub unmoved : State → State
+unmoved = bothBanks (λ b. record { select = b .select; encoders = map uncounted (b .encoders); pwms = b .pwms; i2c = b .i2c })
 
--- "one that applies the first record and then only advances its tally": the others leave the bank as it is, and what they read is
+-- "one that applies the first record and then only advances its tally": the others leave the state as it is, and what they read is
 -- read there
-abbrev pub firstOnly : Edition → List (List ℕ) → Run Bank ℕ
+abbrev pub firstOnly : Edition → List (List ℕ) → Run State ℕ
 firstOnly e [] = under fresh 0 []
-firstOnly e (r ∷ rs) = resumed (λ b q. lift (λ (t : Bank). b) (turnOf e b q)) (played e (r ∷ [])) rs
+firstOnly e (r ∷ rs) = resumed (λ s q. lift (λ (t : State). s) (turnOf e s q)) (played e (r ∷ [])) rs
 
 -- "an invented applied tally": by k more than were applied
-abbrev pub more : ℕ → Run Bank ℕ → Run Bank ℕ
+abbrev pub more : ℕ → Run State ℕ → Run State ℕ
 more k x = record { course = x .course; state = x .state; applied = x .applied + k; readings = x .readings }
 
 -- by paper 01's whole log, and a log that reads SELECT where it is 0; by paper 01's requests PWM 1,000 and 40 Hz, SPI 4,000,000
@@ -58,7 +58,7 @@ pub record Excluded : Type 0 where
   -- "a replay that refuses all", each by any number but 0
   pub refuses-all : (k : List (List ℕ) → ℕ) → Meets (λ e rs. halted fresh 0 [] (suc (k rs))) → ⊥
   -- "one that never moves a count", or "always prints one reading", any v
-  pub never-moves : Meets (λ e rs. runOf (λ b r. lift unmoved (turnOf e b r)) fresh rs) → ⊥
+  pub never-moves : Meets (λ e rs. runOf (λ s r. lift unmoved (turnOf e s r)) fresh rs) → ⊥
   pub one-reading : (v : ℕ) → Meets (λ e rs. retold (λ (w : ℕ). v) (played e rs)) → ⊥
   pub first-only : Meets firstOnly → ⊥
   pub invented-tally : (k : List (List ℕ) → ℕ) → Meets (λ e rs. more (suc (k rs)) (played e rs)) → ⊥

@@ -14,8 +14,8 @@ use Rattle.fold.proofs.Laws.{room-exact, first-goes, rest-goes, rest-readings}
 use Rattle.fold.proofs.Written.{length-bytes}
 use Rattle.wire.specs.Bytes.{leOf, leBytes, asks, readsIn}
 use Rattle.wire.specs.Trailer.{recordsOf, editionIn}
-use Rattle.bank.specs.declared.Bank.{Bank}
-use Rattle.bank.specs.Bank.{fresh}
+use Rattle.banks.specs.declared.State.{State}
+use Rattle.banks.specs.State.{fresh}
 use Rattle.replay.specs.Replay.{turnOf, played}
 use Rattle.replay.proofs.Numbers as numbers
 use Rattle.judge.specs.Judge.{neg, ofCntr, negating, plain, opposite, courseOf}
@@ -28,25 +28,25 @@ use Rattle.judge.proofs.Records.{reads-exactly, cntr-small}
 abbrev pub turned : List ℕ → ℕ → ℕ
 turned r v = cond (ofCntr r) (neg v) v
 
-module _ (turn : Bank → List ℕ → Turn Bank ℕ) where
-  pub record Beside (y x : Run Bank ℕ) : Type 0 where
+module _ (turn : State → List ℕ → Turn State ℕ) where
+  pub record Beside (y x : Run State ℕ) : Type 0 where
     pub course : y .course ≡ x .course
     pub state : y .state ≡ x .state
     pub long : length (y .readings) ≡ length (x .readings)
 
-  pub beside : (b : Bank) (rs : List (List ℕ)) → Beside (runOf (negating turn) b rs) (runOf turn b rs)
+  pub beside : (b : State) (rs : List (List ℕ)) → Beside (runOf (negating turn) b rs) (runOf turn b rs)
   unfolding runOf resumed
   beside = every-run turn (λ b rs x. Beside (runOf (negating turn) b rs) x) none more last
     where
-      none : (b : Bank) → Beside (runOf (negating turn) b []) (under b 0 [])
+      none : (b : State) → Beside (runOf (negating turn) b []) (under b 0 [])
       none b = record { course = refl; state = refl; long = refl }
 
-      more : (b : Bank) (r : List ℕ) (rs : List (List ℕ)) → applies (turn b r) ≡ true
+      more : (b : State) (r : List ℕ) (rs : List (List ℕ)) → applies (turn b r) ≡ true
           → Beside (runOf (negating turn) (leaves b (turn b r)) rs) (runOf turn (leaves b (turn b r)) rs)
           → Beside (runOf (negating turn) b (r ∷ rs)) (after 1 (given (turn b r)) (runOf turn (leaves b (turn b r)) rs))
       more b r rs a ih =
           let x = turn b r in
-          let e = first-applied (negating turn) b r rs (retell-applies (turned r) x ∙ a) ∙ ap (λ (s : Bank). after 1 (given (retell (turned r) x)) (runOf (negating turn) s rs)) (retell-leaves (turned r) b x) in
+          let e = first-applied (negating turn) b r rs (retell-applies (turned r) x ∙ a) ∙ ap (λ (s : State). after 1 (given (retell (turned r) x)) (runOf (negating turn) s rs)) (retell-leaves (turned r) b x) in
           let ys = runOf (negating turn) (leaves b x) rs .readings in
           rw e (record {
             course = ih .course;
@@ -54,34 +54,34 @@ module _ (turn : Bank → List ℕ → Turn Bank ℕ) where
             long = omega (arith, length-append (given (retell (turned r) x)) ys, length-append (given x) (runOf turn (leaves b x) rs .readings), ap length (retell-given (turned r) x), length-map (given x) (turned r), ih .long);
           })
 
-      last : (b : Bank) (r : List ℕ) (rs : List (List ℕ)) (k : ℕ) → turn b r ≡ refused k → Beside (runOf (negating turn) b (r ∷ rs)) (halted b 0 [] k)
+      last : (b : State) (r : List ℕ) (rs : List (List ℕ)) (k : ℕ) → turn b r ≡ refused k → Beside (runOf (negating turn) b (r ∷ rs)) (halted b 0 [] k)
       last b r rs k e = rw (first-refused (negating turn) b r rs k (ap (retell (turned r)) e)) (record { course = refl; state = refl; long = refl })
 
 -- ---- a reading, behind those of the records before
 
-module _ (turn : Bank → List ℕ → Turn Bank ℕ) (b : Bank) (before : List (List ℕ)) (r : List ℕ) (later : List (List ℕ)) (whole : runOf turn b (before ++ r ∷ later) .course ≡ going) where
+module _ (turn : State → List ℕ → Turn State ℕ) (b : State) (before : List (List ℕ)) (r : List ℕ) (later : List (List ℕ)) (whole : runOf turn b (before ++ r ∷ later) .course ≡ going) where
   pub goes-before : runOf turn b before .course ≡ going
   goes-before = first-goes turn b before (r ∷ later) whole
 
   pub applied : applies (turn (runOf turn b before .state) r) ≡ true
   applied = by (turn (runOf turn b before .state) r) refl
     where
-      by : (x : Turn Bank ℕ) → turn (runOf turn b before .state) r ≡ x → applies x ≡ true
+      by : (x : Turn State ℕ) → turn (runOf turn b before .state) r ≡ x → applies x ≡ true
       by (goes s) e = refl
       by (reads v) e = refl
-      by (refused k) e = absurd (halts k (ap (λ (x : Run Bank ℕ). x .course) (sym (first-refused turn (runOf turn b before .state) r later k e)) ∙ rest-goes turn b before (r ∷ later) whole))
+      by (refused k) e = absurd (halts k (ap (λ (x : Run State ℕ). x .course) (sym (first-refused turn (runOf turn b before .state) r later k e)) ∙ rest-goes turn b before (r ∷ later) whole))
 
   pub splits : (v : ℕ) → turn (runOf turn b before .state) r ≡ reads v
       → (ws : List ℕ) × (runOf turn b (before ++ r ∷ later) .readings ≡ runOf turn b before .readings ++ v ∷ ws)
   splits v e =
       let s = runOf turn b before .state in
-      let first = first-applied turn s r later applied ∙ ap (λ (t : Turn Bank ℕ). after 1 (given t) (runOf turn (leaves s t) later)) e in (
+      let first = first-applied turn s r later applied ∙ ap (λ (t : Turn State ℕ). after 1 (given t) (runOf turn (leaves s t) later)) e in (
         runOf turn s later .readings,
-        rest-readings turn b before (r ∷ later) whole ∙ ap (λ (x : Run Bank ℕ). runOf turn b before .readings ++ x .readings) first,
+        rest-readings turn b before (r ∷ later) whole ∙ ap (λ (x : Run State ℕ). runOf turn b before .readings ++ x .readings) first,
       )
 
 -- one that a record asks for
-pub answered : (x : Turn Bank ℕ) → answers x ≡ true → (v : ℕ) × (x ≡ reads v)
+pub answered : (x : Turn State ℕ) → answers x ≡ true → (v : ℕ) × (x ≡ reads v)
 answered (goes s) h = absurd (false≢true h)
 answered (reads v) h = (v, refl)
 answered (refused k) h = absurd (false≢true h)
@@ -93,11 +93,11 @@ said-turned false v h = refl
 -- ---- in the transcripts of a log that replays without refusal
 
 module _ (log : List ℕ) (accepted : courseOf log ≡ going) where
-  abbrev T : Bank → List ℕ → Turn Bank ℕ
+  abbrev T : State → List ℕ → Turn State ℕ
   T = turnOf (editionIn log)
 
   pub goes-through : played (editionIn log) (recordsOf log) .course ≡ going
-  goes-through = sym (ap (λ (x : Run Bank ℕ). x .course) (numbers.accepted log 16_384 accepted)) ∙ accepted
+  goes-through = sym (ap (λ (x : Run State ℕ). x .course) (numbers.accepted log 16_384 accepted)) ∙ accepted
 
   pub opposite-goes : runOf (negating T) fresh (recordsOf log) .course ≡ going
   opposite-goes = beside T fresh (recordsOf log) .course ∙ goes-through
@@ -133,7 +133,7 @@ module _ (log : List ℕ) (accepted : courseOf log ≡ going) where
       pub turned-over : leOf 8 (opposite log) (8 * readsIn before) ≡ said (turned r v)
       turned-over =
           let at = beside T fresh before in
-          let opposed = ap (λ (s : Bank). negating T s r) (at .state) ∙ ap (retell (turned r)) read in
+          let opposed = ap (λ (s : State). negating T s r) (at .state) ∙ ap (retell (turned r)) read in
           let cut-readings = splits (negating T) fresh before r later opposite-on (turned r v) opposed in
           rw (cut, cut-readings .1, ← count, ← at .long) (reading-at (runOf (negating T) fresh before .readings) (turned r v) (cut-readings .0))
 

@@ -14,8 +14,8 @@ use Rattle.wire.specs.Trailer.{trailerOf, recordsOf, editionIn}
 use Rattle.wire.specs.declared.Trailer.{Trailer}
 use Rattle.wire.specs.declared.Trailer.the-variants.{Found, Refused}
 use Rattle.wire.proofs.Laws.{one-to-five}
-use Rattle.bank.specs.declared.Bank.{Bank}
-use Rattle.bank.specs.Bank.{fresh}
+use Rattle.banks.specs.declared.State.{State}
+use Rattle.banks.specs.State.{fresh}
 use Rattle.replay.specs.Replay.{turnOf, replayFrom, replayOf}
 use Rattle.replay.proofs.Numbers.{Number, run-number}
 use Rattle.replay.proofs.Notes.{same-records, same-edition}
@@ -40,7 +40,7 @@ never-six log six = by (trailerOf log) refl
         omega (arith, one-to-five log k e)
     by (Found a n o) e =
         let run = replayed.replayed log a n o 16_384 e (omega (arith, answers.has-room log)) in
-        not-six (run-number (editionIn log) (recordsOf log) 6 (sym (ap (λ (x : Run Bank ℕ). x .course) run) ∙ six))
+        not-six (run-number (editionIn log) (recordsOf log) 6 (sym (ap (λ (x : Run State ℕ). x .course) run) ∙ six))
 
 pub shown : (log ts : List ℕ) → Shown log ts
 shown log ts =
@@ -66,7 +66,7 @@ shown log ts =
 pub notes-ignored : NotesIgnored
 notes-ignored notes other tail ts a p q short back =
     answers.carried (notes ++ tail) (other ++ tail) ts a
-    (ap (λ (x : Run Bank ℕ). x .course) (replayed.notes-ignored notes other tail 16_384 p q short back))
+    (ap (λ (x : Run State ℕ). x .course) (replayed.notes-ignored notes other tail 16_384 p q short back))
     (same turnOf) (same (λ (o : Edition). negating (turnOf o)))
   where
     records : recordsOf (notes ++ tail) ≡ recordsOf (other ++ tail)
@@ -75,9 +75,9 @@ notes-ignored notes other tail ts a p q short back =
     edition : editionIn (notes ++ tail) ≡ editionIn (other ++ tail)
     edition = same-edition notes tail p short back ∙ sym (same-edition other tail q short back)
 
-    transcript : (Edition → Bank → List ℕ → Turn Bank ℕ) → Edition → List (List ℕ) → List ℕ
+    transcript : (Edition → State → List ℕ → Turn State ℕ) → Edition → List (List ℕ) → List ℕ
     transcript turn o rs = bytesOf (leBytes 8) (runOf (turn o) fresh rs .readings)
 
-    same : (turn : Edition → Bank → List ℕ → Turn Bank ℕ)
+    same : (turn : Edition → State → List ℕ → Turn State ℕ)
         → transcript turn (editionIn (notes ++ tail)) (recordsOf (notes ++ tail)) ≡ transcript turn (editionIn (other ++ tail)) (recordsOf (other ++ tail))
     same turn = ap (λ (o : Edition). transcript turn o (recordsOf (notes ++ tail))) edition ∙ ap (transcript turn (editionIn (other ++ tail))) records

@@ -11,11 +11,9 @@ use Rattle.edition.specs.declared.Edition.{Edition}
 use Rattle.laws.proofs.Truth.{both-true}
 use Rattle.fold.specs.Turn.{Turn, reads, applies, answers}
 use Rattle.wire.specs.Bytes.{byte, asks}
-use Rattle.wire.specs.Record.{decodeOf}
+use Rattle.wire.specs.Record.{bankOf}
 use Rattle.wire.specs.declared.Record.{Record}
 use Rattle.wire.specs.declared.Record.the-variants.{WriteSelect, WriteEncoder, WritePwm, WriteI2c, ReadSelect, ReadEncoder, ReadPwm, ReadI2c, Pins, Ticks}
-use Rattle.wire.specs.declared.Decoded.{Decoded}
-use Rattle.wire.specs.declared.Decoded.the-variants.{Names, Refused}
 use Rattle.wire.proofs.Formed.{Formed, formed}
 use Rattle.wire.proofs.Known.{isRead, reads-ask}
 use Rattle.encoder.specs.Encoder.{registerOf}
@@ -25,35 +23,38 @@ use Rattle.bank.specs.declared.Bank.{Bank}
 use Rattle.bank.specs.Bank.{encoderAt}
 use Rattle.bank.specs.Bank as bank
 use Rattle.bank.proofs.Turns.{reading, exactly}
-use Rattle.replay.specs.Replay.{decodedTurn, turnOf}
+use Rattle.banks.specs.declared.State.{State}
+use Rattle.banks.specs.State.{bankAt}
+use Rattle.replay.specs.Replay.{turnOf}
+use Rattle.replay.proofs.Replaying.{by-turn, lift-answers, lift-applies, lift-reads}
 use Rattle.judge.specs.Judge.{ofCntr}
 
-pub reads-exactly : (o : Edition) (b : Bank) (s : List ℕ) → applies (turnOf o b s) ≡ true → answers (turnOf o b s) ≡ asks s
-unfolding turnOf
-reads-exactly o b s = by (decodeOf s) refl
+pub reads-exactly : (o : Edition) (s : State) (bytes : List ℕ) → applies (turnOf o s bytes) ≡ true → answers (turnOf o s bytes) ≡ asks bytes
+reads-exactly o s bytes =
+    by-turn o s bytes (λ t. applies t ≡ true → answers t ≡ asks bytes) (λ n e h. absurd (false≢true h)) (λ r e k h. ap (λ (n : ℕ). eqb n 2) (sym k))
+    (λ r e k h. lift-answers _ (turn r) ∙ exactly o (bankAt (bankOf bytes) s) r (sym (lift-applies _ (turn r)) ∙ h) ∙ reads-ask bytes o r e)
   where
-    by : (d : Decoded) → decodeOf s ≡ d → applies (decodedTurn o b d) ≡ true → answers (decodedTurn o b d) ≡ asks s
-    by (Names r) e h = exactly o b r h ∙ reads-ask s r e
-    by (Refused n) e h = absurd (false≢true h)
+    turn : Record → Turn Bank ℕ
+    turn r = bank.turnOf o (bankAt (bankOf bytes) s) r
 
 -- "CNTR reads its bit pattern"
-pub cntr-small : (o : Edition) (b : Bank) (s : List ℕ) (v : ℕ) → ofCntr s ≡ true → turnOf o b s ≡ reads v → v < 2 ^ 32
-unfolding turnOf bank.turnOf
-cntr-small o b s v c = by (decodeOf s) refl
+bank-small : (o : Edition) (b : Bank) (bytes : List ℕ) (v : ℕ) → ofCntr bytes ≡ true → (r : Record) → Formed bytes r → bank.turnOf o b r ≡ reads v → v < 2 ^ 32
+unfolding bank.turnOf
+bank-small o b bytes v c = named
   where
-    is-block : byte s 1 ≡ 1
-    is-block = eqb-true (byte s 1) 1 (both-true (eqb (byte s 1) 1) (eqb (byte s 3) 2) c .0)
+    is-block : byte bytes 1 ≡ 1
+    is-block = eqb-true (byte bytes 1) 1 (both-true (eqb (byte bytes 1) 1) (eqb (byte bytes 3) 2) c .0)
 
-    is-register : byte s 3 ≡ 2
-    is-register = eqb-true (byte s 3) 2 (both-true (eqb (byte s 1) 1) (eqb (byte s 3) 2) c .1)
+    is-register : byte bytes 3 ≡ 2
+    is-register = eqb-true (byte bytes 3) 2 (both-true (eqb (byte bytes 1) 1) (eqb (byte bytes 3) 2) c .1)
 
     no-read : (r : Record) → isRead r ≡ false → bank.turnOf o b r ≡ reads v → v < 2 ^ 32
     no-read r n e = absurd (false≢true (sym n ∙ reading o b r (ap answers e)))
 
-    other : (k : ℕ) → byte s 1 ≡ k → (k ≡ 1 → ⊥) → v < 2 ^ 32
+    other : (k : ℕ) → byte bytes 1 ≡ k → (k ≡ 1 → ⊥) → v < 2 ^ 32
     other k e d = absurd (d (sym e ∙ is-block))
 
-    named : (r : Record) → Formed s r → bank.turnOf o b r ≡ reads v → v < 2 ^ 32
+    named : (r : Record) → Formed bytes r → bank.turnOf o b r ≡ reads v → v < 2 ^ 32
     named (WriteSelect w) f e = no-read (WriteSelect w) refl e
     named (WriteEncoder i w) f e = no-read (WriteEncoder i w) refl e
     named (WritePwm i g w) f e = no-read (WritePwm i g w) refl e
@@ -69,6 +70,7 @@ cntr-small o b s v c = by (decodeOf s) refl
         let is : pattern (encoderAt i b .count) ≡ v = cc in
         omega (arith, pattern-lt (encoderAt i b .count))
 
-    by : (d : Decoded) → decodeOf s ≡ d → decodedTurn o b d ≡ reads v → v < 2 ^ 32
-    by (Names r) e h = named r (formed s r e) h
-    by (Refused n) e h = absurd (false≢true (ap answers h))
+pub cntr-small : (o : Edition) (s : State) (bytes : List ℕ) (v : ℕ) → ofCntr bytes ≡ true → turnOf o s bytes ≡ reads v → v < 2 ^ 32
+cntr-small o s bytes v c =
+    by-turn o s bytes (λ t. t ≡ reads v → v < 2 ^ 32) (λ n e h. absurd (false≢true (ap answers h))) (λ r e k h. absurd (false≢true (ap answers h)))
+    (λ r e k h. bank-small o (bankAt (bankOf bytes) s) bytes v c r (formed o bytes r e) (lift-reads _ _ v h))

@@ -16,8 +16,8 @@ use Rattle.fold.proofs.Runs.{first-applied, every-going}
 use Rattle.fold.specs.Output.{bytesOf}
 use Rattle.wire.specs.Bytes.{leOf, leBytes, readsIn}
 use Rattle.wire.specs.Trailer.{recordsOf, editionIn}
-use Rattle.bank.specs.declared.Bank.{Bank}
-use Rattle.bank.specs.Bank.{fresh}
+use Rattle.banks.specs.declared.State.{State}
+use Rattle.banks.specs.State.{fresh}
 use Rattle.replay.specs.Replay.{turnOf, played}
 use Rattle.judge.specs.Judge.{neg, ofCntr, negating, transcriptBy, plain, opposite, courseOf}
 use Rattle.judge.specs.Facts.{Still}
@@ -62,7 +62,7 @@ module _ (log : List ℕ) (accepted : courseOf log ≡ going) where
 
 -- ---- and where it does
 
-same-given : (r : List ℕ) (x : Turn Bank ℕ) → ((v : ℕ) → ofCntr r ≡ true → x ≡ reads v → Unmoved v) → given (retell (turned r) x) ≡ given x
+same-given : (r : List ℕ) (x : Turn State ℕ) → ((v : ℕ) → ofCntr r ≡ true → x ≡ reads v → Unmoved v) → given (retell (turned r) x) ≡ given x
 same-given r (goes b) h = refl
 same-given r (refused k) h = refl
 same-given r (reads v) h = by (ofCntr r) refl
@@ -71,27 +71,27 @@ same-given r (reads v) h = by (ofCntr r) refl
     by true c = ap (λ (w : ℕ). w ∷ []) (unmoved-neg v (h v c refl))
     by false c = refl
 
-module _ (turn : Bank → List ℕ → Turn Bank ℕ) where
-  StillFrom : Bank → List (List ℕ) → Type 0
+module _ (turn : State → List ℕ → Turn State ℕ) where
+  StillFrom : State → List (List ℕ) → Type 0
   StillFrom b rs =
       (before later : List (List ℕ)) (r : List ℕ) (v : ℕ) → rs ≡ before ++ r ∷ later → ofCntr r ≡ true
       → turn (runOf turn b before .state) r ≡ reads v → Unmoved v
 
-  same-readings : (b : Bank) (rs : List (List ℕ)) → runOf turn b rs .course ≡ going → StillFrom b rs
+  same-readings : (b : State) (rs : List (List ℕ)) → runOf turn b rs .course ≡ going → StillFrom b rs
       → runOf (negating turn) b rs .readings ≡ runOf turn b rs .readings
   unfolding runOf resumed StillFrom
   same-readings b rs g =
       every-going turn (λ b rs x. StillFrom b rs → runOf (negating turn) b rs .readings ≡ x .readings) (λ b s. refl) more b rs g
     where
-      more : (b : Bank) (r : List ℕ) (rs : List (List ℕ)) → applies (turn b r) ≡ true
+      more : (b : State) (r : List ℕ) (rs : List (List ℕ)) → applies (turn b r) ≡ true
           → (StillFrom (leaves b (turn b r)) rs → runOf (negating turn) (leaves b (turn b r)) rs .readings ≡ runOf turn (leaves b (turn b r)) rs .readings)
           → StillFrom b (r ∷ rs) → runOf (negating turn) b (r ∷ rs) .readings ≡ given (turn b r) ++ runOf turn (leaves b (turn b r)) rs .readings
       more b r rs a ih s =
           let x = turn b r in
-          ap (λ (y : Run Bank ℕ). y .readings) (first-applied (negating turn) b r rs (retell-applies (turned r) x ∙ a))
+          ap (λ (y : Run State ℕ). y .readings) (first-applied (negating turn) b r rs (retell-applies (turned r) x ∙ a))
           ∙ rw (retell-leaves (turned r) b x, same-given r x (λ v c e. s [] rs r v refl c e))
           (ap (λ (l : List ℕ). given x ++ l)
-          (ih (λ before later q v e c read. s (r ∷ before) later q v (ap (λ (l : List (List ℕ)). r ∷ l) e) c (ap (λ (y : Run Bank ℕ). turn (y .state) q) (first-applied turn b r before a) ∙ read))))
+          (ih (λ before later q v e c read. s (r ∷ before) later q v (ap (λ (l : List (List ℕ)). r ∷ l) e) c (ap (λ (y : Run State ℕ). turn (y .state) q) (first-applied turn b r before a) ∙ read))))
 
 pub still-same : (log : List ℕ) → courseOf log ≡ going → Still (editionIn log) (recordsOf log) → plain log ≡ opposite log
 unfolding StillFrom
@@ -106,10 +106,10 @@ twice-told r v h = by (ofCntr r) refl
     by true c = twice-neg v (h c)
     by false c = refl
 
-twice-turn : (o : Edition) (b : Bank) (r : List ℕ) → negating (negating (turnOf o)) b r ≡ turnOf o b r
+twice-turn : (o : Edition) (b : State) (r : List ℕ) → negating (negating (turnOf o)) b r ≡ turnOf o b r
 twice-turn o b r = by (turnOf o b r) refl
   where
-    by : (x : Turn Bank ℕ) → turnOf o b r ≡ x → retell (turned r) (retell (turned r) x) ≡ x
+    by : (x : Turn State ℕ) → turnOf o b r ≡ x → retell (turned r) (retell (turned r) x) ≡ x
     by (goes s) e = refl
     by (reads v) e = ap reads (twice-told r v (λ c. cntr-small o b r v c e))
     by (refused k) e = refl

@@ -19,7 +19,7 @@ use Rattle.wire.specs.Trailer.{trailerOf, recordsOf, editionIn}
 use Rattle.wire.specs.declared.Trailer.{Trailer}
 use Rattle.wire.specs.declared.Trailer.the-variants.{Found, Refused as NoTrailer}
 use Rattle.wire.proofs.Laws.{found-within}
-use Rattle.bank.specs.declared.Bank.{Bank}
+use Rattle.banks.specs.declared.State.{State}
 use Rattle.replay.specs.Replay.{played, replayFrom, replayOf, written}
 use Rattle.replay.proofs.Numbers.{accepted}
 use Rattle.replay.proofs.Proved as replayed
@@ -47,7 +47,7 @@ module _ (log : List ℕ) (room : ℕ) (enough : room ≡ 16_384) (x : Stop) (is
   long : (courseOf log ≡ going) → 8 * x .readings ≡ length (plain log)
   unfolding stopOf
   long a =
-      omega (arith, ap (λ (s : Stop). s .readings) is, ap (λ (n : ℕ). length (replayOf log n .readings)) enough, ap (λ (r : Run Bank ℕ). length (r .readings)) (accepted log 16_384 a), length-bytes (leBytes 8) (λ v. refl) (played (editionIn log) (recordsOf log) .readings))
+      omega (arith, ap (λ (s : Stop). s .readings) is, ap (λ (n : ℕ). length (replayOf log n .readings)) enough, ap (λ (r : Run State ℕ). length (r .readings)) (accepted log 16_384 a), length-bytes (leBytes 8) (λ v. refl) (played (editionIn log) (recordsOf log) .readings))
 
   -- a refusal's number is not 0
   goes-through : x .refused ≡ 0 → courseOf log ≡ going
@@ -95,7 +95,7 @@ module _ (log : List ℕ) (room : ℕ) (enough : room ≡ 16_384) (x : Stop) (is
     ready out out′ wrote z t a c o p q =
         let k = accepts z in
         let out-is : out′ ≡ plain log ++ drop (length (plain log)) out =
-        wrote ∙ ap (λ (j : ℕ). written (replayOf log j) out) enough ∙ ap (λ (r : Run Bank ℕ). written r out) (accepted log 16_384 (k .0)) in
+        wrote ∙ ap (λ (j : ℕ). written (replayOf log j) out) enough ∙ ap (λ (r : Run State ℕ). written r out) (accepted log 16_384 (k .0)) in
         record {
           records = c;
           edition = o;

@@ -11,8 +11,8 @@ use Rattle.fold.specs.Run.{Course, going, stopped, runOf}
 use Rattle.fold.specs.Output.{bytesOf}
 use Rattle.wire.specs.Bytes.{byte, leBytes}
 use Rattle.wire.specs.Trailer.{recordsOf, editionIn}
-use Rattle.bank.specs.declared.Bank.{Bank}
-use Rattle.bank.specs.Bank.{fresh}
+use Rattle.banks.specs.declared.State.{State}
+use Rattle.banks.specs.State.{fresh}
 use Rattle.replay.specs.Replay.{turnOf, replayOf}
 use Rattle.judge.specs.declared.Verdict.{Verdict}
 use Rattle.judge.specs.declared.Verdict.the-variants.{Same, Negated, Both, Different, Refused}
@@ -26,11 +26,11 @@ abbrev pub ofCntr : List ℕ → Bool
 ofCntr r = eqb (byte r 1) 1 && eqb (byte r 3) 2
 
 -- what a record does, "once every encoder CNTR reading is negated"
-abbrev pub negating : (Bank → List ℕ → Turn Bank ℕ) → Bank → List ℕ → Turn Bank ℕ
-negating turn b r = retell (λ (v : ℕ). cond (ofCntr r) (neg v) v) (turn b r)
+abbrev pub negating : (State → List ℕ → Turn State ℕ) → State → List ℕ → Turn State ℕ
+negating turn s r = retell (λ (v : ℕ). cond (ofCntr r) (neg v) v) (turn s r)
 
 -- the transcript of a log by what its records do: plainly, and negated
-abbrev pub transcriptBy : (Bank → List ℕ → Turn Bank ℕ) → List ℕ → List ℕ
+abbrev pub transcriptBy : (State → List ℕ → Turn State ℕ) → List ℕ → List ℕ
 transcriptBy turn log = bytesOf (leBytes 8) (runOf turn fresh (recordsOf log) .readings)
 
 abbrev pub plain : List ℕ → List ℕ

@@ -6,7 +6,7 @@ use Prim.Native.Nat.{ℕ, zero, suc, _+_, _≤_, _<_}
 use native.Mathlib.Omega.{arith}
 use native.Mathlib.Nat.{le-of-suc-le-suc, not-suc-le-zero, zero-add, add-zero, le-antisymm}
 use native.Mathlib.Numerals.{add-one}
-use lib.ListN.{length, take, drop, set, getD, replicate, length-map}
+use lib.ListN.{length, take, drop, set, getD, replicate, length-map, length-append, take-append-drop}
 use Rattle.laws.specs.Each.{mapFrom}
 
 -- an array of structs in a field: what owning it tells is of the list under a map
@@ -44,6 +44,15 @@ pub length-each : {X : Type 0} (f : ℕ → X → X) (k : ℕ) (l : List X) → 
 unfolding mapFrom
 length-each f k [] = refl
 length-each f k (x ∷ l) = ap suc (length-each f (suc k) l)
+
+pub length-front : {X : Type 0} (f : ℕ → X → X) (k i : ℕ) (l : List X) → length (front f k i l) ≡ length l
+length-front f k i l = length-append (mapFrom f k (take i l)) (drop i l) ∙ rw (length-each f k (take i l), ← length-append (take i l) (drop i l), take-append-drop i l)
+
+-- f of each element, where it asks for no place, is a map
+pub each-map : {X : Type 0} (f : X → X) (k : ℕ) (l : List X) → mapFrom (λ i x. f x) k l ≡ map f l
+unfolding mapFrom
+each-map f k [] = refl
+each-map f k (x ∷ l) = ap (λ t. f x ∷ t) (each-map f (suc k) l)
 
 -- what f keeps holds of every element after it, and what holds of all and of a new one holds with it in place
 module _ {X : Type 0} (P : X → Type 0) (d : X) where

@@ -1,7 +1,9 @@
 mod Ways
-mod Replaying
+pub mod Replaying
 mod Reached
+mod Laid
 mod Whole
 pub mod Numbers
 pub mod Notes
+pub mod OneBank
 pub mod Proved

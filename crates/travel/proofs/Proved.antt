@@ -25,25 +25,27 @@ use Rattle.shaft.proofs.Motions.{gaps, sign}
 use Rattle.select.specs.Select.{fieldOf, some, encoderRouted}
 use Rattle.wire.specs.Bytes.{leOf, leBytes, readsIn}
 use Rattle.wire.specs.Trailer.{trailerOf, recordsAt, recordsOf, editionIn}
-use Rattle.wire.specs.Record.{decodeOf, namedOf, writeOf, readOf}
+use Rattle.wire.specs.Record.{bankOf, decodeOf, namedOf, writeOf, readOf, pinsOf, ticksOf}
 use Rattle.wire.specs.declared.Trailer.{Trailer}
 use Rattle.wire.specs.declared.Trailer.the-variants.{Found, Refused as NoTrailer}
 use Rattle.wire.specs.declared.Record.the-variants.{ReadEncoder, Pins}
 use Rattle.wire.specs.declared.Decoded.the-variants.{Names}
 use Rattle.wire.proofs.Numbers.{le-behind, le-bytes}
 use Rattle.wire.proofs.Laws.{few-records}
-use Rattle.wire.proofs.Formed.{formed}
-use Rattle.bank.specs.declared.Bank.{Bank}
-use Rattle.bank.specs.Bank.{encoderAt, fresh}
+use Rattle.wire.proofs.Formed.{formed, bank-formed}
+use Rattle.bank.specs.Bank.{encoderAt}
+use Rattle.banks.specs.declared.State.{State}
+use Rattle.banks.specs.State.{fresh, bankAt}
+use Rattle.banks.proofs.Whole.{Both}
 use Rattle.bank.specs.Bank as bank
-use Rattle.replay.specs.Replay.{decodedTurn, turnOf, played, playOf, replayFrom, replayOf, written}
+use Rattle.replay.specs.Replay.{turnOf, played, playOf, replayFrom, replayOf, written}
 use Rattle.replay.proofs.Proved.{replayed}
 use Rattle.travel.specs.Stretch.{names, pinsIn, undisturbed, encoderAfter}
 use Rattle.travel.specs.Demand.{Demand, DemandOfRuns}
 use Rattle.travel.specs.Log.{DemandOfLogs, DemandOfOutputs, Examples}
-use Rattle.travel.proofs.Events.{Event, pins, eventAt, pinsAmong, pins-among, all-quiet}
+use Rattle.travel.proofs.Events.{Event, pins, eventAt, pinsAmong, pins-among, all-quiet, pins-bank, event-pins}
 use Rattle.travel.proofs.Counting.{Channel, onEvent, first-ready, counting}
-use Rattle.travel.proofs.Banks.{Sound, view, turn-view, turn-pins, sound-turn, sound-fresh}
+use Rattle.travel.proofs.Banks.{Sound, viewAt, turn-view, turn-pins, sound-turn, sound-fresh}
 use Rattle.travel.proofs.Pins.{all-pins, few}
 
 -- ---- what is counted is the travel and the gap
@@ -71,51 +73,53 @@ demand vs first last a counted = record {
 
 -- ---- any run, from any sound bank
 
-all-sound : (o : Edition) (rs : List (List ℕ)) → Sound (played o rs .state)
-all-sound o rs = laws.keeps (turnOf o) Sound (sound-turn o) fresh rs sound-fresh
+all-sound : (o : Edition) (rs : List (List ℕ)) → Both Sound (played o rs .state)
+all-sound o rs = laws.keeps (turnOf o) (Both Sound) (sound-turn o) fresh rs sound-fresh
 
 -- at encoder i a run is the encoder's own
-follows : (o : Edition) (i : ℕ) → i < 10 → (b : Bank) (rs : List (List ℕ)) → Sound b → runOf (turnOf o) b rs .course ≡ going
-    → view i (runOf (turnOf o) b rs .state) ≡ foldl onEvent (view i b) (map (eventAt i) rs)
-follows o i h b rs s goes = laws.seen-by (turnOf o) Sound (sound-turn o) (view i) (eventAt i) onEvent (turn-view o i h) b rs s goes
+follows : (o : Edition) (k i : ℕ) → k < 2 → i < 10 → (b : State) (rs : List (List ℕ)) → Both Sound b → runOf (turnOf o) b rs .course ≡ going
+    → viewAt k i (runOf (turnOf o) b rs .state) ≡ foldl onEvent (viewAt k i b) (map (eventAt k i) rs)
+follows o k i l h b rs s goes = laws.seen-by (turnOf o) (Both Sound) (sound-turn o) (viewAt k i) (eventAt k i) onEvent (turn-view o k i l h) b rs s goes
 
-from-bank : (o : Edition) (i : ℕ) (b : Bank) (r : List ℕ) (rs : List (List ℕ)) → Sound b → names 3 1 i r ≡ true
-    → countsInQuadrature (encoderRouted (b .select) i) (encoderAt i b .cnfg) ≡ true → undisturbed i rs ≡ true → runOf (turnOf o) b (r ∷ rs) .course ≡ going
-    → Demand (pinsIn i (r ∷ rs)) (encoderAt i (runOf (turnOf o) b (r ∷ []) .state) .count) (encoderAt i (runOf (turnOf o) b (r ∷ rs) .state) .count)
-from-bank o i b r rs sound begins counts calm goes =
+from-state : (o : Edition) (k i : ℕ) (b : State) (r : List ℕ) (rs : List (List ℕ)) → Both Sound b → names k 3 1 i r ≡ true
+    → countsInQuadrature (encoderRouted (bankAt k b .select) i) (encoderAt i (bankAt k b) .cnfg) ≡ true → undisturbed k i rs ≡ true → runOf (turnOf o) b (r ∷ rs) .course ≡ going
+    → Demand (pinsIn k i (r ∷ rs)) (encoderAt i (bankAt k (runOf (turnOf o) b (r ∷ []) .state)) .count) (encoderAt i (bankAt k (runOf (turnOf o) b (r ∷ rs) .state)) .count)
+from-state o k i b r rs sound begins counts calm goes =
     let v = leOf 8 r 8 in
-    let c = view i b in
+    let c = viewAt k i b in
     let goes-first = laws.first-goes (turnOf o) b (r ∷ []) rs goes in
-    let within = formed r (Pins i v) (turn-pins o i b r begins (goes-applies (turnOf o) b r goes-first)) .1 in
-    let ready = first-ready c v counts (sound .ranges i .count) in
-    let first = follows o i within b (r ∷ []) sound goes-first in
-    let last = follows o i within b (r ∷ rs) sound goes in
-    let is : eventAt i r ≡ pins v = rw begins in
-    let shows : v ∷ pinsAmong (map (eventAt i) rs) ≡ pinsIn i (r ∷ rs) = sym (rw begins (ap (λ (l : List ℕ). v ∷ l) (pins-among i rs))) in
-    let counted = counting (onEvent c (pins v)) v (map (eventAt i) rs) ready (all-quiet i rs calm) in
-    demand _ _ _ (all-pins o i b (r ∷ rs) goes)
-    (ap (λ (d : Channel). d .encoder .count) (last ∙ ap (λ (x : Event). foldl onEvent (onEvent c x) (map (eventAt i) rs)) is)
+    let decoded = turn-pins o k i b r begins (goes-applies (turnOf o) b r goes-first) in
+    let within = formed o r (Pins i v) decoded .1 in
+    let in-two : k < 2 = omega (arith, bank-formed o r (Pins i v) decoded, pins-bank o i r k begins) in
+    let ready = first-ready c v counts (sound .each k in-two .ranges i .count) in
+    let first = follows o k i in-two within b (r ∷ []) sound goes-first in
+    let last = follows o k i in-two within b (r ∷ rs) sound goes in
+    let is : eventAt k i r ≡ pins v = event-pins o i r k begins in
+    let shows : v ∷ pinsAmong (map (eventAt k i) rs) ≡ pinsIn k i (r ∷ rs) = sym (rw begins (ap (λ (l : List ℕ). v ∷ l) (pins-among k i rs))) in
+    let counted = counting (onEvent c (pins v)) v (map (eventAt k i) rs) ready (all-quiet k i rs calm) in
+    demand _ _ _ (all-pins o k i b (r ∷ rs) goes)
+    (ap (λ (d : Channel). d .encoder .count) (last ∙ ap (λ (x : Event). foldl onEvent (onEvent c x) (map (eventAt k i) rs)) is)
     ∙ counted
-    ∙ ap (λ (x : Event). wrap (onEvent c x .encoder .count +ℤ steps (v ∷ pinsAmong (map (eventAt i) rs)))) (sym is)
-    ∙ ap (λ (d : Channel). wrap (d .encoder .count +ℤ steps (v ∷ pinsAmong (map (eventAt i) rs)))) (sym first)
-    ∙ ap (λ (vs : List ℕ). wrap (encoderAt i (runOf (turnOf o) b (r ∷ []) .state) .count +ℤ steps vs)) shows)
+    ∙ ap (λ (x : Event). wrap (onEvent c x .encoder .count +ℤ steps (v ∷ pinsAmong (map (eventAt k i) rs)))) (sym is)
+    ∙ ap (λ (d : Channel). wrap (d .encoder .count +ℤ steps (v ∷ pinsAmong (map (eventAt k i) rs)))) (sym first)
+    ∙ ap (λ (vs : List ℕ). wrap (encoderAt i (bankAt k (runOf (turnOf o) b (r ∷ []) .state)) .count +ℤ steps vs)) shows)
 
 pub demand-of-runs : DemandOfRuns
-demand-of-runs o i before r rs st =
+demand-of-runs o k i before r rs st =
     let b = played o before .state in
     let goes = st .applied in
     let goes-first = laws.first-goes (turnOf o) fresh (before ++ r ∷ []) rs (ap (λ (l : List (List ℕ)). played o l .course) (append-assoc before (r ∷ []) rs) ∙ goes) in
-    subst (λ (x : Bank). Demand (pinsIn i (r ∷ rs)) (encoderAt i x .count) (encoderAfter o i (before ++ r ∷ rs) .count)) (sym (laws.rest-state (turnOf o) fresh before (r ∷ []) goes-first))
-    (subst (λ (x : Bank). Demand (pinsIn i (r ∷ rs)) (encoderAt i (runOf (turnOf o) b (r ∷ []) .state) .count) (encoderAt i x .count)) (sym (laws.rest-state (turnOf o) fresh before (r ∷ rs) goes))
-    (from-bank o i b r rs (all-sound o before) (st .begins) (st .counts) (st .calm) (laws.rest-goes (turnOf o) fresh before (r ∷ rs) goes)))
+    subst (λ (x : State). Demand (pinsIn k i (r ∷ rs)) (encoderAt i (bankAt k x) .count) (encoderAfter o k i (before ++ r ∷ rs) .count)) (sym (laws.rest-state (turnOf o) fresh before (r ∷ []) goes-first))
+    (subst (λ (x : State). Demand (pinsIn k i (r ∷ rs)) (encoderAt i (bankAt k (runOf (turnOf o) b (r ∷ []) .state)) .count) (encoderAt i (bankAt k x) .count)) (sym (laws.rest-state (turnOf o) fresh before (r ∷ rs) goes))
+    (from-state o k i b r rs (all-sound o before) (st .begins) (st .counts) (st .calm) (laws.rest-goes (turnOf o) fresh before (r ∷ rs) goes)))
 
 -- ---- a log
 
 pub demand-of-logs : DemandOfLogs
-demand-of-logs i log r before rs later cut st =
+demand-of-logs k i log r before rs later cut st =
     let short : length (r ∷ rs) < 2048 =
     omega (arith, rw cut at (few-records log), length-append (before ++ r ∷ rs) later, length-append before (r ∷ rs)) in
-    demand-of-runs (editionIn log) i before r rs st .difference (omega (arith, few i (r ∷ rs)))
+    demand-of-runs (editionIn log) k i before r rs st .difference (omega (arith, few k i (r ∷ rs)))
 
 -- ---- the output's bytes
 
@@ -131,28 +135,28 @@ bytes-at (w ∷ vs) v ws rest h =
     ∙ le-behind 8 (leBytes 8 w) (more ++ rest) (8 * length vs)
     ∙ bytes-at vs v ws rest h
 
-module _ (o : Edition) (i : ℕ) (q : List ℕ) (names : decodeOf q ≡ Names (ReadEncoder i 2)) where
-  asks-cntr : (b : Bank) → turnOf o b q ≡ reads (pattern (encoderAt i b .count))
+module _ (o : Edition) (k i : ℕ) (q : List ℕ) (names : decodeOf o q ≡ Names (ReadEncoder i 2)) (there : bankOf q ≡ k) where
+  asks-cntr : (b : State) → turnOf o b q ≡ reads (pattern (encoderAt i (bankAt k b) .count))
   unfolding turnOf bank.turnOf
-  asks-cntr b = ap (decodedTurn o b) names
+  asks-cntr b = rw (names, formed o q (ReadEncoder i 2) names .0 .is-kind, there)
 
   -- the readings of a run that goes on to q, wherever the rest leads
   reads-next : (rs later : List (List ℕ)) → played o rs .course ≡ going
-      → (ws : List ℕ) × (played o (rs ++ q ∷ later) .readings ≡ played o rs .readings ++ pattern (encoderAfter o i rs .count) ∷ ws)
+      → (ws : List ℕ) × (played o (rs ++ q ∷ later) .readings ≡ played o rs .readings ++ pattern (encoderAfter o k i rs .count) ∷ ws)
   reads-next rs later goes =
       let b = played o rs .state in
-      let first = first-applied (turnOf o) b q later (ap applies (asks-cntr b)) ∙ ap (λ (t : Turn Bank ℕ). after 1 (given t) (runOf (turnOf o) (leaves b t) later)) (asks-cntr b) in (
+      let first = first-applied (turnOf o) b q later (ap applies (asks-cntr b)) ∙ ap (λ (t : Turn State ℕ). after 1 (given t) (runOf (turnOf o) (leaves b t) later)) (asks-cntr b) in (
         runOf (turnOf o) b later .readings,
-        ap (λ (x : Run Bank ℕ). x .readings) (laws.cut-in-two (turnOf o) fresh rs (q ∷ later) goes) ∙ ap (λ (x : Run Bank ℕ). played o rs .readings ++ x .readings) first,
+        ap (λ (x : Run State ℕ). x .readings) (laws.cut-in-two (turnOf o) fresh rs (q ∷ later) goes) ∙ ap (λ (x : Run State ℕ). played o rs .readings ++ x .readings) first,
       )
 
   reads-bytes : (rs later : List (List ℕ)) (out : List ℕ) → played o rs .course ≡ going
-      → leOf 8 (written (played o (rs ++ q ∷ later)) out) (8 * length (played o rs .readings)) ≡ pattern (encoderAfter o i rs .count)
+      → leOf 8 (written (played o (rs ++ q ∷ later)) out) (8 * length (played o rs .readings)) ≡ pattern (encoderAfter o k i rs .count)
   unfolding outputOf over
   reads-bytes rs later out goes =
       let next = reads-next rs later goes in
       ap (λ (l : List ℕ). leOf 8 (bytesOf (leBytes 8) l ++ drop (length (bytesOf (leBytes 8) l)) out) (8 * length (played o rs .readings))) (next .1)
-      ∙ bytes-at (played o rs .readings) (pattern (encoderAfter o i rs .count)) (next .0) _ (omega (arith, pattern-lt (encoderAfter o i rs .count)))
+      ∙ bytes-at (played o rs .readings) (pattern (encoderAfter o k i rs .count)) (next .0) _ (omega (arith, pattern-lt (encoderAfter o k i rs .count)))
 
 -- a log with records has a trailer, and with room it replays as their run
 plays : (log : List ℕ) (room : ℕ) (before : List (List ℕ)) (r : List ℕ) (rs : List (List ℕ)) → recordsOf log ≡ before ++ r ∷ rs
@@ -166,18 +170,18 @@ plays log room before r rs cut fits = by (trailerOf log) refl
         absurd (omega (arith, length-append before (r ∷ rs)))
 
 pub demand-of-outputs : DemandOfOutputs
-demand-of-outputs i log out r q before rs later cut st names room ps f =
-    let first = encoderAfter (editionIn log) i (before ++ r ∷ []) .count in
-    ap (λ (x : Run Bank ℕ). leOf 8 (written x out) (8 * length (played (editionIn log) (before ++ r ∷ rs) .readings))) (plays log (length out) (before ++ r ∷ rs) q later cut room)
-    ∙ reads-bytes (editionIn log) i q names (before ++ r ∷ rs) later out (st .applied)
-    ∙ ap pattern (demand-of-runs (editionIn log) i before r rs st .counted)
-    ∙ pattern-wrap (first +ℤ steps (pinsIn i (r ∷ rs)))
-    ∙ ap pattern (split first (pinsIn i (r ∷ rs)) ps)
+demand-of-outputs k i log out r q before rs later cut st names there room ps f =
+    let first = encoderAfter (editionIn log) k i (before ++ r ∷ []) .count in
+    ap (λ (x : Run State ℕ). leOf 8 (written x out) (8 * length (played (editionIn log) (before ++ r ∷ rs) .readings))) (plays log (length out) (before ++ r ∷ rs) q later cut room)
+    ∙ reads-bytes (editionIn log) k i q names there (before ++ r ∷ rs) later out (st .applied)
+    ∙ ap pattern (demand-of-runs (editionIn log) k i before r rs st .counted)
+    ∙ pattern-wrap (first +ℤ steps (pinsIn k i (r ∷ rs)))
+    ∙ ap pattern (split first (pinsIn k i (r ∷ rs)) ps)
 
 -- ---- the two logs
 
 pub examples : Examples
-unfolding replayOf replayFrom trailerOf playOf runOf resumed step tally records turnOf bank.turnOf leOf decodeOf namedOf writeOf readOf fieldOf some mapFrom statOf fresh
+unfolding replayOf replayFrom trailerOf playOf runOf resumed step tally records turnOf bank.turnOf leOf decodeOf namedOf writeOf readOf pinsOf ticksOf fieldOf some mapFrom statOf bank.fresh
 examples = record {
   cut = refl;
   stretch = record { applied = refl; begins = refl; counts = refl; calm = refl };

@@ -1,0 +1,5 @@
+mod Parts
+mod Copies
+pub mod Places
+pub mod Whole
+pub mod Sweeps
