@@ -84,6 +84,7 @@ pub fn refusal(select: u64, c: I2c, r: Record) -> u8
         Record::WriteI2c { register, value: _ } => {
             i2c_refusal(select::i2c_routed(select), register, c)
         }
+        Record::Answer(_) => unrouted(select::i2c_routed(select)),
         Record::ReadSelect => 0,
         Record::ReadEncoder {
             channel: _,

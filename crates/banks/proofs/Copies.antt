@@ -9,12 +9,11 @@ use lib.ListN.{length, getD, set, drop}
 use lib.Seq.{getD-set-same, getD-set-other, paste, paste-zero}
 use Rattle.encoder.specs.Encoder as encoder
 use Rattle.pwm.specs.Pwm as pwm
-use Rattle.i2c.specs.I2c as i2c
 use Rattle.bank.specs.declared.Bank.{Bank}
 use Rattle.bank.proofs.Sweep.{with-encoders, with-pwms}
 use Rattle.banks.specs.declared.State.{State}
 use Rattle.banks.specs.declared.Flat.{Flat}
-use Rattle.banks.specs.State.{bankAt, withBank}
+use Rattle.banks.specs.State.{noI2c, bankAt, withBank}
 use Rattle.banks.specs.How.{bankIn, stateOf}
 use Rattle.banks.proofs.Parts.{copied-in, first-kept, second-kept, copied-one, taken-one, taken-all}
 use Rattle.banks.proofs.Places.{flat-encoders, flat-pwms}
@@ -60,8 +59,8 @@ module _ (f : Flat) (b : Bank) (ls : length (f .selects) ≡ 2) (le : length (f 
         second-kept 20 (f .pwms) (b .pwms) twenty,
         getD-set-same (f .selects) 0 (b .select) 0 (omega (arith, ls)),
         getD-set-other (f .selects) 0 1 (b .select) 0 (λ e. absurd (omega (arith, e))),
-        getD-set-same (f .i2cs) 0 (b .i2c) i2c.fresh (omega (arith, lc)),
-        getD-set-other (f .i2cs) 0 1 (b .i2c) i2c.fresh (λ e. absurd (omega (arith, e))),
+        getD-set-same (f .i2cs) 0 (b .i2c) noI2c (omega (arith, lc)),
+        getD-set-other (f .i2cs) 0 1 (b .i2c) noI2c (λ e. absurd (omega (arith, e))),
       )
   whole (suc zero) h =
       rw (
@@ -71,8 +70,8 @@ module _ (f : Flat) (b : Bank) (ls : length (f .selects) ≡ 2) (le : length (f 
         first-kept 20 (f .pwms) (b .pwms) twenty (omega (arith, lp)),
         getD-set-same (f .selects) 1 (b .select) 0 (omega (arith, ls)),
         getD-set-other (f .selects) 1 0 (b .select) 0 (λ e. absurd (omega (arith, e))),
-        getD-set-same (f .i2cs) 1 (b .i2c) i2c.fresh (omega (arith, lc)),
-        getD-set-other (f .i2cs) 1 0 (b .i2c) i2c.fresh (λ e. absurd (omega (arith, e))),
+        getD-set-same (f .i2cs) 1 (b .i2c) noI2c (omega (arith, lc)),
+        getD-set-other (f .i2cs) 1 0 (b .i2c) noI2c (λ e. absurd (omega (arith, e))),
       )
   whole (suc (suc k)) h = absurd (omega arith)
 
@@ -113,7 +112,7 @@ module _ (b : Bank) (f : Flat) (k : ℕ) where
         rw e (ap (with-pwms b) (taken-one 20 (b .pwms) (f .pwms) k i pwm.fresh (omega (arith, long)) (omega (arith, l))))
 
   pub all-out : length (b .encoders) ≡ 10 → length (b .pwms) ≡ 20 → (x y : Bank) (i j : ℕ) → i ≤ 10 → 10 ≤ i → x ≡ encoders-out b f k i → j ≤ 20 → 20 ≤ j → y ≡ pwms-out x f k j
-      → _≡_ {A = Bank} (record { select = getD (f .selects) k 0; encoders = y .encoders; pwms = y .pwms; i2c = getD (f .i2cs) k i2c.fresh }) (bankIn k f)
+      → _≡_ {A = Bank} (record { select = getD (f .selects) k 0; encoders = y .encoders; pwms = y .pwms; i2c = getD (f .i2cs) k noI2c }) (bankIn k f)
   all-out m n x y i j i₁ i₂ p j₁ j₂ q =
       rw (q, p, le-antisymm i₁ i₂, le-antisymm j₁ j₂, taken-all 10 (b .encoders) (drop (10 * k) (f .encoders)) m, taken-all 20 (b .pwms) (drop (20 * k) (f .pwms)) n)
 

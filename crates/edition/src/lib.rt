@@ -7,6 +7,8 @@ pub struct Edition {
     pub runs: bool,
     // byte 4 of a record names one of two banks
     pub banks: bool,
+    // a record tells how a slave answers
+    pub answers: bool,
 }
 
 impl Edition {
@@ -16,6 +18,7 @@ impl Edition {
         Edition {
             runs: number > 1,
             banks: number > 1,
+            answers: number > 1,
         }
     }
 }

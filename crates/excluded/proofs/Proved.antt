@@ -16,7 +16,7 @@ use Rattle.wire.specs.Bytes.{byte, leOf}
 use Rattle.wire.specs.Trailer.{trailerOf}
 use Rattle.wire.specs.declared.Trailer.{Trailer}
 use Rattle.wire.specs.declared.Trailer.the-variants.{Found, Refused}
-use Rattle.wire.specs.Record.{decodeOf, namedOf, writeOf, readOf, pinsOf, ticksOf}
+use Rattle.wire.specs.Record.{decodeOf, namedOf, writeOf, readOf, pinsOf, ticksOf, answerOf}
 use Rattle.bank.specs.Bank as bank
 use Rattle.replay.specs.Replay.{turnOf, played, playOf, replayFrom, replayOf, written}
 use Rattle.replay.specs.Facts.{whole}
@@ -65,7 +65,7 @@ fixed u f g c x p h = (exact u f (h f 0) refl, exact u g (h g 0) refl)
 -- ---- all
 
 pub excluded : Excluded
-unfolding replayOf replayFrom trailerOf playOf runOf resumed step tally records turnOf bank.turnOf leOf decodeOf namedOf writeOf readOf pinsOf ticksOf fieldOf some mapFrom statOf bank.fresh bytesOf over outputOf stopOf
+unfolding replayOf replayFrom trailerOf playOf runOf resumed step tally records turnOf bank.turnOf leOf decodeOf namedOf writeOf readOf pinsOf ticksOf answerOf fieldOf some mapFrom statOf bank.fresh bytesOf over outputOf stopOf
 excluded = record {
   refuses-all = λ k h. refused-none _ (ap (λ (a : Stop). a .refused) (h whole output .0));
   never-moves = λ h. let e : _≡_ {A = ℕ} 0 1 = ap first-byte (h whole output .1) in omega arith;

@@ -1,2 +1,3 @@
 mod States
+mod Answers
 pub mod Proved

@@ -2,7 +2,7 @@
 ghost use mathlib.Core.Path.{_≡_};
 ghost use mathlib.Core.Bool.{cond};
 ghost use lib.Dec.{ltb, eqb};
-ghost use Rattle.i2c.specs.I2c.{codeOf, code, stateOf, allowed, forbidden, ended, recalled, onAddr, onCntl, ran, registerOf, fresh};
+ghost use Rattle.i2c.specs.I2c.{codeOf, code, stateOf, allowed, forbidden, failed, ended, recalled, onAddr, onCntl, onAnswer, ran, registerOf, fresh};
 ghost use Rattle.i2c.specs.How.{onWrite};
 
 pub enum Phase {
@@ -17,6 +17,10 @@ pub struct I2c {
     pub phase: Phase,
     // whether the last received byte was
     pub acknowledged: bool,
+    // how the slave answers the next GO: bit 0 the address, bit 1 the data
+    pub answer: u8,
+    // of the last GO: 0 none, 1 address, 2 data
+    pub failure: u8,
 }
 
 // The control code of a GO.
@@ -80,9 +84,26 @@ fn forbidden(phase: Phase, acknowledged: bool, code: Code) -> bool
     acknowledged & (matches(phase, true) & (!code.byte & (!code.start & code.stop)))
 }
 
-fn ended(code: Code) -> Phase
-    ensures { λ r. ⌜ r ≡ ended code ⌝ }
+// What the slave does not acknowledge of a GO.
+fn failed(answer: u8, code: Code) -> u8
+    ensures { λ r. ⌜ r ≡ failed answer code ⌝ }
 {
+    if code.start & !(answer % 2 == 1) {
+        return 1;
+    }
+    if code.byte & (!code.receive & !(answer / 2 % 2 == 1)) {
+        return 2;
+    }
+    0
+}
+
+// nobody: the address was not acknowledged.
+fn ended(nobody: bool, code: Code) -> Phase
+    ensures { λ r. ⌜ r ≡ ended nobody code ⌝ }
+{
+    if nobody {
+        return Phase::Idle;
+    }
     if code.byte {
         if code.stop {
             return Phase::Idle;
@@ -95,10 +116,10 @@ fn ended(code: Code) -> Phase
     Phase::Idle
 }
 
-fn recalled(code: Code) -> bool
-    ensures { λ r. ⌜ r ≡ recalled code ⌝ }
+fn recalled(nobody: bool, code: Code) -> bool
+    ensures { λ r. ⌜ r ≡ recalled nobody code ⌝ }
 {
-    code.byte & (code.receive & (!code.stop & code.ack))
+    !nobody & (code.byte & (code.receive & (!code.stop & code.ack)))
 }
 
 impl I2c {
@@ -110,6 +131,8 @@ impl I2c {
             cntl: 0,
             phase: Phase::Idle,
             acknowledged: false,
+            answer: 3,
+            failure: 0,
         }
     }
 
@@ -122,6 +145,8 @@ impl I2c {
             cntl: self.cntl,
             phase,
             acknowledged: self.acknowledged,
+            answer: self.answer,
+            failure: self.failure,
         }
     }
 
@@ -134,6 +159,8 @@ impl I2c {
             cntl: v,
             phase,
             acknowledged: self.acknowledged,
+            answer: self.answer,
+            failure: self.failure,
         }
     }
 
@@ -158,11 +185,31 @@ impl I2c {
         ensures { λ r. ⌜ r ≡ ran self ⌝ }
     {
         let code = Code::of(self.addr, self.cntl);
+        let failure = failed(self.answer, code);
+        let nobody = failure == 1;
+        let answer = 3;
         I2c {
             addr: self.addr,
             cntl: self.cntl,
-            phase: ended(code),
-            acknowledged: recalled(code),
+            phase: ended(nobody, code),
+            acknowledged: recalled(nobody, code),
+            answer,
+            failure,
+        }
+    }
+
+    // How the slave answers the next GO that is not refused.
+    pub fn answer(self, v: u8) -> I2c
+        ensures { λ r. ⌜ r ≡ onAnswer v self ⌝ }
+    {
+        let phase = self.phase;
+        I2c {
+            addr: self.addr,
+            cntl: self.cntl,
+            phase,
+            acknowledged: self.acknowledged,
+            answer: v,
+            failure: self.failure,
         }
     }
 
@@ -199,6 +246,9 @@ impl I2c {
         if register == 1 {
             return self.cntl as u64;
         }
-        self.state() as u64
+        if register == 3 {
+            return self.state() as u64;
+        }
+        self.failure as u64
     }
 }

@@ -13,7 +13,7 @@ use Rattle.fold.specs.Turn.{Turn, reads, applies, answers}
 use Rattle.wire.specs.Bytes.{byte, asks}
 use Rattle.wire.specs.Record.{bankOf}
 use Rattle.wire.specs.declared.Record.{Record}
-use Rattle.wire.specs.declared.Record.the-variants.{WriteSelect, WriteEncoder, WritePwm, WriteI2c, ReadSelect, ReadEncoder, ReadPwm, ReadI2c, Pins, Ticks}
+use Rattle.wire.specs.declared.Record.the-variants.{WriteSelect, WriteEncoder, WritePwm, WriteI2c, Answer, ReadSelect, ReadEncoder, ReadPwm, ReadI2c, Pins, Ticks}
 use Rattle.wire.proofs.Formed.{Formed, formed}
 use Rattle.wire.proofs.Known.{isRead, reads-ask}
 use Rattle.encoder.specs.Encoder.{registerOf}
@@ -59,6 +59,7 @@ bank-small o b bytes v c = named
     named (WriteEncoder i w) f e = no-read (WriteEncoder i w) refl e
     named (WritePwm i g w) f e = no-read (WritePwm i g w) refl e
     named (WriteI2c g w) f e = no-read (WriteI2c g w) refl e
+    named (Answer w) f e = no-read (Answer w) refl e
     named (Pins i w) f e = no-read (Pins i w) refl e
     named (Ticks t) f e = no-read (Ticks t) refl e
     named ReadSelect f e = other 0 (f .is-block) (λ z. omega arith)

@@ -10,6 +10,7 @@ use Rattle.rate.specs.Facts.{hertzPwm, hertzSpi, Gives}
 use Rattle.rate.proofs.Answers.{fair-hertz-pwm, fair-hertz-spi, found-right}
 use Rattle.rate.proofs.Proved.{thousandfold-pwm, thousandfold-spi}
 use Rattle.encoder.specs.Encoder.{statOf}
+use Rattle.i2c.specs.I2c.{allowed, forbidden}
 use Rattle.pwm.specs.Pwm.{ticked, waited, onTicks}
 use Rattle.sums.specs.Paper.{started, RateSums, PaperSums}
 use Rattle.sums.specs.Ours.{OurSums}
@@ -78,7 +79,7 @@ paper-sums = record {
 }
 
 pub our-sums : OurSums
-unfolding statOf ticked waited
+unfolding statOf ticked waited allowed forbidden
 our-sums = record {
   down = refl;
   down-and-up = refl;
@@ -86,4 +87,8 @@ our-sums = record {
   goes-to-0 = refl;
   runs-on = (refl, refl);
   at-the-end = refl;
+  no-stop = refl;
+  nobody = (refl, refl);
+  no-data = (refl, refl);
+  neither = refl;
 }

@@ -25,7 +25,7 @@ use Rattle.shaft.proofs.Motions.{gaps, sign}
 use Rattle.select.specs.Select.{fieldOf, some, encoderRouted}
 use Rattle.wire.specs.Bytes.{leOf, leBytes, readsIn}
 use Rattle.wire.specs.Trailer.{trailerOf, recordsAt, recordsOf, editionIn}
-use Rattle.wire.specs.Record.{bankOf, decodeOf, namedOf, writeOf, readOf, pinsOf, ticksOf}
+use Rattle.wire.specs.Record.{bankOf, decodeOf, namedOf, writeOf, readOf, pinsOf, ticksOf, answerOf}
 use Rattle.wire.specs.declared.Trailer.{Trailer}
 use Rattle.wire.specs.declared.Trailer.the-variants.{Found, Refused as NoTrailer}
 use Rattle.wire.specs.declared.Record.the-variants.{ReadEncoder, Pins}
@@ -181,7 +181,7 @@ demand-of-outputs k i log out r q before rs later cut st names there room ps f =
 -- ---- the two logs
 
 pub examples : Examples
-unfolding replayOf replayFrom trailerOf playOf runOf resumed step tally records turnOf bank.turnOf leOf decodeOf namedOf writeOf readOf pinsOf ticksOf fieldOf some mapFrom statOf bank.fresh
+unfolding replayOf replayFrom trailerOf playOf runOf resumed step tally records turnOf bank.turnOf leOf decodeOf namedOf writeOf readOf pinsOf ticksOf answerOf fieldOf some mapFrom statOf bank.fresh
 examples = record {
   cut = refl;
   stretch = record { applied = refl; begins = refl; counts = refl; calm = refl };

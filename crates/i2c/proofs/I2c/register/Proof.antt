@@ -13,4 +13,6 @@ register-spec =
     (λ c. search cases)
     (λ c κs. search needs)
     (λ c. search needs)
+    (λ c. search cases)
+    (λ c. search needs)
     (λ c. search cases))
