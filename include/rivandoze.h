@@ -12,7 +12,8 @@
 extern "C" {
 #endif
 
-/* The refusals of papers 01 and 02. 1 to 11 and 16 come from a replay, 12 to 15 from the rate calls, 17 and a log's own from the judge. */
+/* The refusals of papers 01 and 02. 1 to 11 and 16 come from a replay, 12 to 15 from the rate calls, 17 and a log's own from the judge, 6
+ * and a log's own from the dump, 6 and 20 from its reader. */
 enum rvz_refusal {
     RVZ_OK = 0,                   /* Nothing is refused. */
     RVZ_LOG_TOO_LONG = 1,         /* The log is longer than 32,768 bytes. */
@@ -20,7 +21,7 @@ enum rvz_refusal {
     RVZ_WRONG_MARK = 3,           /* The trailer does not end in the mark 51 4D. */
     RVZ_WRONG_EDITION = 4,        /* The trailer's edition is not 1. */
     RVZ_WRONG_DISTANCE = 5,       /* The trailer's distance is no multiple of 16, or reaches back before the log. */
-    RVZ_OUTPUT_TOO_SHORT = 6,     /* The output has less than 8 bytes for each read. */
+    RVZ_OUTPUT_TOO_SHORT = 6,     /* The output has no room: less than 8 bytes for each read, or for the whole dump or its entries. */
     RVZ_NO_SUCH_RECORD = 7,       /* The record names no kind, block, channel, register or access, or a byte that must be 0 is not. */
     RVZ_VALUE_OUT_OF_RANGE = 8,   /* The value is outside the range of its register or record. */
     RVZ_NOT_ROUTED = 9,           /* The record writes to, or moves the pins of, a channel that is not routed. */
@@ -31,7 +32,8 @@ enum rvz_refusal {
     RVZ_NO_PAIR = 14,             /* No pair is within the tolerance. */
     RVZ_NO_SUCH_PAIR = 15,        /* The divider choice is 0 or above 7, or X is above 65,535. */
     RVZ_STOP_AFTER_ACK = 16,      /* GO with STOP alone after a byte that was received and acknowledged. */
-    RVZ_WRONG_TRANSCRIPT = 17     /* The transcript has not 8 bytes for each reading of the log. */
+    RVZ_WRONG_TRANSCRIPT = 17,    /* The transcript has not 8 bytes for each reading of the log. */
+    RVZ_NO_DUMP = 20              /* The text is no dump as rvz_dump writes them. */
 };
 
 /* The refusal of any answer, RVZ_OK (0) if none. */
@@ -78,6 +80,38 @@ static inline unsigned rvz_verdict_of(uint64_t answer) { return (unsigned)(answe
 
 /* The number of the first reading, 0 being the first, that differs from the replay's; 0 unless the verdict is RVZ_DIFFERENT. */
 static inline uint64_t rvz_first_difference(uint64_t answer) { return answer >> 16; }
+
+/* ---- Waveforms ---- */
+
+/* No dump is longer, in bytes. */
+enum { RVZ_DUMP_BYTES = 25207 };
+
+/* Writes the pins of a log that replays as a value change dump, IEEE 1364, text form, for waveform viewers: into `out`, which has room for
+ * `out_len` bytes; rvz_dump_length(answer) tells how many were written, and no other byte of `out` changes. docs/WAVEFORM.md has the format.
+ * Refusals: the log's own, as of a replay whose output is long enough, then 6 if the text does not fit; nothing is written in these.
+ * RVZ_DUMP_BYTES are enough for every log. `log` and `out` may not overlap, and neither may be NULL, even at length 0. */
+uint64_t rvz_dump(const uint8_t *log, size_t log_len, uint8_t *out, size_t out_len);
+
+/* The length of the text; 0 if refused. */
+static inline uint64_t rvz_dump_length(uint64_t answer) { return answer >> 8; }
+
+/* Reads a dump of `text_len` bytes at `text` back: for each time at which something changed, and each encoder that changed at it, an entry
+ * of RVZ_ENTRY_BYTES bytes in `out` with the pins as they stand after all changes at that time; by time, then bank, then encoder. No
+ * other byte of `out` changes. Refusals: 20 for any text that is not just as rvz_dump writes it, then 6 if the entries do not fit; nothing
+ * is written in these. `text` and `out` may not overlap, and neither may be NULL, even at length 0. */
+uint64_t rvz_dump_read(const uint8_t *text, size_t text_len, uint8_t *out, size_t out_len);
+
+enum { RVZ_ENTRY_BYTES = 16 };
+
+/* How many entries; 0 if refused. */
+static inline uint64_t rvz_entries(uint64_t answer) { return answer >> 8; }
+
+/* Entry number `index` of an output, 0 being the first: its time in ns, its bank (0 or 1; of a myRIO the port), its encoder, and its pins, bit
+ * 0 pin A and bit 1 pin B. */
+static inline uint64_t rvz_entry_time(const uint8_t *out, size_t index) { return rvz_reading(out, 2 * index); }
+static inline unsigned rvz_entry_bank(const uint8_t *out, size_t index) { return out[RVZ_ENTRY_BYTES * index + 8]; }
+static inline unsigned rvz_entry_encoder(const uint8_t *out, size_t index) { return out[RVZ_ENTRY_BYTES * index + 9]; }
+static inline unsigned rvz_entry_pins(const uint8_t *out, size_t index) { return out[RVZ_ENTRY_BYTES * index + 10]; }
 
 /* ---- Rates ---- */
 

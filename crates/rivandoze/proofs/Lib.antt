@@ -2,4 +2,5 @@
 pub mod RateWords
 pub mod ReplayWord
 pub mod JudgeWord
+pub mod DumpWords
 pub mod Proved

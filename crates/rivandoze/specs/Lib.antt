@@ -3,4 +3,5 @@ pub mod Refusal
 pub mod RateWords
 pub mod ReplayWord
 pub mod JudgeWord
+pub mod DumpWords
 pub mod How

@@ -1,4 +1,5 @@
 // What C calls, on numbers and byte slices: a file for each group of calls. `include/rivandoze.h` declares them.
+mod dumps;
 mod judges;
 mod rates;
 mod replays;

@@ -1,7 +1,7 @@
-// With no argument it replays the log on standard input; with arguments it judges a transcript by that log, or answers one question about
-// rates. It has no exit status to give, so all it has to say goes to standard output: built in one buffer, every byte promised, and
-// written at once. What is read and written no contract can say: `number`, `replay_input`, `judge_input`, `answer` and `main`, which talk to
-// the system, promise no bytes, nor does `usage`, a constant.
+// With no argument it replays the log on standard input; with arguments it writes that log's dump, judges a transcript by it, or answers one
+// question about rates. It has no exit status to give, so all it has to say goes to standard output, but for the refusal of a dump: built
+// in one buffer, every byte promised, and written at once. What is read and written no contract can say: `number`, `replay_input`,
+// `judge_input`, `answer` and `main`, which talk to the system, promise no bytes, nor does `usage`, a constant.
 use decimal::Decimal;
 use judge::Verdict;
 use libc::STDIN_FILENO;
@@ -127,6 +127,7 @@ fn usage(text: &mut [u8]) -> usize
         text,
         0,
         b"usage: rvz                      replays the log on standard input
+       rvz dump                 that log's pins as a value change dump, or 'refused R' on standard error
        rvz judge FILE           the transcript in FILE by that log: 'same', 'negated', 'both', 'different I' or 'refused R'
        rvz pwm RATE TOL         the pair for a PWM rate: 'choice C x X period P' or 'refused R'
        rvz spi RATE TOL         the pair for an SPI rate
@@ -206,6 +207,10 @@ fn answer(text: &mut [u8]) -> usize
 
 fn main() {
     let mut text = [0u8; 43066];
+    if dump_print::asked() {
+        dump_print::dump_input(&mut text);
+        return;
+    }
     let n = answer(&mut text);
     io::write_all(STDOUT_FILENO, &text[..n]);
 }

@@ -61,6 +61,13 @@ rateText clock period = line (digitsOf clock ++ space ++ digitsOf period)
 abbrev pub refusedText : ℕ → List ℕ
 refusedText r = line (refusedWord ++ digitsOf r)
 
+-- `refused R record I`
+abbrev pub recordWord : List ℕ
+recordWord = 32 ∷ 114 ∷ 101 ∷ 99 ∷ 111 ∷ 114 ∷ 100 ∷ 32 ∷ []
+
+abbrev pub refusedRecordText : ℕ → ℕ → List ℕ
+refusedRecordText r i = line (refusedWord ++ digitsOf r ++ recordWord ++ digitsOf i)
+
 abbrev pub noNumberText : List ℕ → List ℕ
 noNumberText name = name ++ line (noDecimal ++ digitsOf (2 ^ 64 - 1))
 

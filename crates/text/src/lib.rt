@@ -5,7 +5,7 @@ ghost use lib.ListN.{length};
 ghost use Rattle.decimal.specs.Digits.{digitsOf};
 ghost use Rattle.decimal.specs.Put.{Put};
 ghost use Rattle.wire.specs.Bytes.{leOf};
-ghost use Rattle.text.specs.Text.{line, textOf, linesOf, readingsIn, pairText, rateText, refusedText, noNumberText, differentText};
+ghost use Rattle.text.specs.Text.{line, textOf, linesOf, readingsIn, pairText, rateText, refusedText, refusedRecordText, noNumberText, differentText};
 
 pub fn put_word(out: &mut [u8], at: usize, word: &[u8]) -> usize
     ensures { λ r. ⌜ Put (now (out .entry)) at (now (word .entry)) (now (out .exit)) r ⌝ }
@@ -90,6 +90,13 @@ pub fn refused_text(out: &mut [u8], number: u64) -> usize
     ensures { λ r. ⌜ Put (now (out .entry)) 0 (refusedText number) (now (out .exit)) r ⌝ }
 {
     put_line(out, 0, b"refused ", number)
+}
+
+// The same of a record, by its index.
+pub fn refused_record_text(out: &mut [u8], number: u64, index: u64) -> usize
+    ensures { λ r. ⌜ Put (now (out .entry)) 0 (refusedRecordText number index) (now (out .exit)) r ⌝ }
+{
+    put_pair(out, 0, b"refused ", number, b" record ", index)
 }
 
 // What is said to a word that is no number, by what it should have been.

@@ -1,0 +1,3 @@
+pub mod Views
+pub mod Passes
+pub mod Whole

@@ -1,0 +1,54 @@
+-- The facts of specs/Facts.antt. Assumes nothing.
+use mathlib.Core.Path.{_≡_, refl, ap, _∙_}
+use mathlib.Core.List.{List, [], _++_}
+use Prim.Native.Nat.{ℕ, _≤_}
+use lib.ListN.{length, take, drop}
+use lib.Seq.{take-at, drop-at}
+use borrow.Author.Tests.{le-leb}
+use Rattle.edition.specs.declared.Edition.{Edition}
+use Rattle.fold.specs.Run.{going}
+use Rattle.fold.specs.Output.{over}
+use Rattle.judge.proofs.Proved.{shown as judged}
+use Rattle.vcd.specs.Entries.{entriesIn}
+use Rattle.vcd.specs.Reader.{entries, readOf}
+use Rattle.vcd.specs.Facts.{Shown}
+use Rattle.vcd.proofs.Orders.{all-shown}
+use Rattle.dump.specs.Dump.{stepsOf, dumpText, replayed, dumpedOf, outputOf}
+use Rattle.dump.specs.declared.Dumped.{Dumped}
+use Rattle.dump.proofs.Views.{seen-pins, seen-ticks}
+use Rattle.dump.proofs.Whole.{good-log, few-log}
+use Rattle.dump_back.specs.Facts.{Dumps, AllDumps, NoSix, Sees}
+
+module _ (log : List ℕ) (goes : replayed log .course ≡ going) where
+  is-shown : Shown (stepsOf log)
+  is-shown = all-shown (stepsOf log) (good-log log goes) (few-log log goes)
+
+  module _ (out : List ℕ) (fits : length (dumpText log) ≤ length out) where
+    size-is : dumpedOf log (length out) .size ≡ length (dumpText log)
+    unfolding dumpedOf
+    size-is = rw (goes, le-leb (length (dumpText log)) (length out) fits)
+
+    after-is : outputOf log out ≡ dumpText log ++ drop (length (dumpText log)) out
+    unfolding outputOf over
+    after-is = rw (goes, le-leb (length (dumpText log)) (length out) fits)
+
+    front : take (dumpedOf log (length out) .size) (outputOf log out) ≡ dumpText log
+    front = rw (size-is, after-is) (take-at (dumpText log) (drop (length (dumpText log)) out) (length (dumpText log)) refl)
+
+    beyond : drop (dumpedOf log (length out) .size) (outputOf log out) ≡ drop (dumpedOf log (length out) .size) out
+    beyond = rw (size-is, after-is) (drop-at (dumpText log) (drop (length (dumpText log)) out) (length (dumpText log)) refl)
+
+    read : readOf (take (dumpedOf log (length out) .size) (outputOf log out)) ≡ entries (entriesIn (stepsOf log))
+    read = ap readOf front ∙ is-shown .back
+
+pub all-dumps : AllDumps
+all-dumps log goes = record {
+  shown = is-shown log goes;
+  written = λ out fits. (size-is log goes out fits, front log goes out fits, beyond log goes out fits, read log goes out fits);
+}
+
+pub no-six : NoSix
+no-six log = judged log [] .no-six
+
+pub sees : (o : Edition) (r : List ℕ) → Sees o r
+sees o r = record { pins = seen-pins o r; ticks = seen-ticks o r }

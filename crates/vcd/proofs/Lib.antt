@@ -1,0 +1,5 @@
+pub mod Print
+pub mod Starts
+pub mod Heart
+pub mod Bound
+pub mod Orders

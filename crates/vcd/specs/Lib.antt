@@ -1,0 +1,5 @@
+pub mod Lines
+pub mod Dump
+pub mod Entries
+pub mod Reader
+pub mod Facts
