@@ -10,7 +10,7 @@
 #include "rivandoze.h"
 
 enum { LOG_MAX = 32768, OUT_LEN = 16384, RECORD_LEN = 16, TRAILER_LEN = 8 };
-enum { WRITE = 1, READ = 2, PINS = 3, TICKS = 4 };
+enum { WRITE = 1, READ = 2, PINS = 3, TICKS = 4, ANSWER = 5 };
 enum { BLOCKS = 4, ENCODER = 1, REGISTERS = 6, STAT = 1, CNTR = 2 };
 
 struct block {
@@ -23,7 +23,7 @@ static const struct block blocks[BLOCKS] = {
     {"function", 0, {"SELECT", NULL, NULL, NULL, NULL, NULL}},
     {"encoder", 1, {"CNFG", "STAT", "CNTR", NULL, NULL, NULL}},
     {"PWM", 1, {"CNFG", "CS", "MAX", "CMP", "CNTR", "output level"}},
-    {"I2C", 0, {"ADDR", "CNTL", "GO", "state", NULL, NULL}},
+    {"I2C", 0, {"ADDR", "CNTL", "GO", "state", "failure", NULL}},
 };
 
 /* By their numbers; those of rates, 12 to 15, no log gives. */
@@ -32,7 +32,7 @@ static const char *const reasons[] = {
     "the log is longer than 32,768 bytes",
     "the log is shorter than its trailer of 8 bytes",
     "the trailer does not end in the mark 51 4D",
-    "the trailer's edition is not 1",
+    "the trailer's edition is neither 1 nor 2",
     "the trailer's distance is no multiple of 16, or reaches back before the log",
     "the readings do not fit into the output",
     "it names no kind, block, channel, register or access that there is, or a byte that must be 0 is not",
@@ -62,6 +62,7 @@ static void print_place(const uint8_t *record) {
     } else if (channel != 0) {
         printf(" channel %u", channel);
     }
+    if (record[4] != 0) printf(" of bank %u", (unsigned)record[4]);
     if (reg < REGISTERS && blocks[block].registers[reg] != NULL) {
         printf(" %s", blocks[block].registers[reg]);
     } else {
@@ -87,7 +88,9 @@ static void print_sense(const uint8_t *record, uint64_t reading) {
 static void print_pins(const uint8_t *record) {
     uint64_t value = value_of(record);
     if (record[1] == ENCODER && record[3] == 0 && value <= 3) {
-        printf("pins of encoder %u: A %u, B %u", (unsigned)record[2], (unsigned)(value & 1), (unsigned)(value >> 1));
+        printf("pins of encoder %u", (unsigned)record[2]);
+        if (record[4] != 0) printf(" of bank %u", (unsigned)record[4]);
+        printf(": A %u, B %u", (unsigned)(value & 1), (unsigned)(value >> 1));
         return;
     }
     printf("pins of ");
@@ -111,6 +114,10 @@ static void print_meaning(const uint8_t *record) {
     case PINS:
         print_pins(record);
         break;
+    case ANSWER:
+        printf("answer %" PRIu64 " of the slave", value);
+        if (record[4] != 0) printf(" of bank %u", (unsigned)record[4]);
+        break;
     case TICKS:
         printf("%" PRIu64 " ticks", value);
         if (record[1] != 0 || record[2] != 0 || record[3] != 0) {
@@ -123,7 +130,7 @@ static void print_meaning(const uint8_t *record) {
         print_place(record);
         printf(", value %" PRIu64, value);
     }
-    if (record[4] != 0 || record[5] != 0 || record[6] != 0 || record[7] != 0) {
+    if (record[5] != 0 || record[6] != 0 || record[7] != 0) {
         printf(", with reserved bytes that are not 0");
     }
 }

@@ -11,10 +11,14 @@ trap 'rm -rf "$work"' EXIT
 # A row, the most instructions that the second program may take, and the most that the library may.
 limits='pins of one encoder|100|74
 pins of ten encoders|100|74
+pins, changing bank|100|9999
 reads|70|52
+reads, changing bank|70|9999
 a mix, waits to 20 ticks|100|83
 a mix, waits of any length|100|84
-waits only, 20 PWM channels|900|845
+a mix over both banks|110|9999
+waits only, 20 PWM channels|950|845
+waits only, 40 PWM channels|1650|9999
 reads, judged|75|67
 a mix, waits to 20 ticks, judged|100|88
 the finder, a request|80|58'

@@ -1,6 +1,7 @@
 //! What each row of the benchmark is about: a full log, to be replayed or judged, or requests of the finder.
 
 use rivandoze_check::generate::{generate, Rng, Settings};
+use rivandoze_check::reference::edition::Edition;
 use rivandoze_check::reference::log::{build, RECORDS_MAX};
 use rivandoze_check::reference::rate::{HIGHEST_PWM_RATE, HIGHEST_SPI_RATE, LOWEST_RATE};
 use rivandoze_check::reference::record::{Fields, ENCODER, I2C, PWM, SELECT, TICKS_MAX};
@@ -25,17 +26,27 @@ pub struct Row {
     pub make: fn() -> Vec<u8>,
 }
 
-pub const ROWS: [Row; 9] = [
-    row("pins of one encoder", Does::Replay, || pins(1)),
-    row("pins of ten encoders", Does::Replay, || pins(10)),
-    row("reads", Does::Replay, reads),
-    row("a mix, waits to 20 ticks", Does::Replay, || mix(20)),
+pub const ROWS: [Row; 13] = [
+    row("pins of one encoder", Does::Replay, || pins(1, 1)),
+    row("pins of ten encoders", Does::Replay, || pins(10, 1)),
+    row("pins, changing bank", Does::Replay, || pins(10, 2)),
+    row("reads", Does::Replay, || reads(1)),
+    row("reads, changing bank", Does::Replay, || reads(2)),
+    row("a mix, waits to 20 ticks", Does::Replay, || mix(1, 20)),
     row("a mix, waits of any length", Does::Replay, || {
-        mix(TICKS_MAX)
+        mix(1, TICKS_MAX)
     }),
-    row("waits only, 20 PWM channels", Does::Replay, waits_only),
-    row("reads, judged", Does::Judge, reads),
-    row("a mix, waits to 20 ticks, judged", Does::Judge, || mix(20)),
+    row("a mix over both banks", Does::Replay, || mix(2, 20)),
+    row("waits only, 20 PWM channels", Does::Replay, || {
+        waits_only(1)
+    }),
+    row("waits only, 40 PWM channels", Does::Replay, || {
+        waits_only(2)
+    }),
+    row("reads, judged", Does::Judge, || reads(1)),
+    row("a mix, waits to 20 ticks, judged", Does::Judge, || {
+        mix(1, 20)
+    }),
     row("the finder, a request", Does::Find, some_requests),
 ];
 
@@ -53,35 +64,53 @@ impl Row {
     }
 }
 
-/// Encoders in quadrature, walking on and back.
-fn pins(encoders: u8) -> Vec<u8> {
-    let mut rng = Rng::new(1);
-    let mut records = vec![Fields::write(SELECT, 0, 0, ALL_ENCODERS)];
-    records.extend((0..encoders).map(|channel| Fields::write(ENCODER, channel, 0, 1)));
-    let mut pins = [0; 10];
-    while records.len() < RECORDS_MAX {
-        let channel = rng.below(encoders.into()) as usize;
-        pins[channel] ^= rng.pick(&[1, 2]);
-        records.push(Fields::pins(channel as u8, pins[channel]));
+/// The first edition that has so many banks.
+fn edition(banks: u8) -> Edition {
+    match banks {
+        1 => Edition::One,
+        _ => Edition::Two,
     }
-    log_of(&records)
 }
 
-fn reads() -> Vec<u8> {
+/// Encoders in quadrature, walking on and back, in each bank by turns.
+fn pins(encoders: u8, banks: u8) -> Vec<u8> {
+    let mut rng = Rng::new(1);
+    let mut records = Vec::new();
+    for bank in 0..banks {
+        let writes = (0..encoders).map(|channel| Fields::write(ENCODER, channel, 0, 1));
+        let select = Fields::write(SELECT, 0, 0, ALL_ENCODERS);
+        let all = [select].into_iter().chain(writes);
+        records.extend(all.map(|write| write.in_bank(bank)));
+    }
+    let mut pins = [[0; 10]; 2];
+    while records.len() < RECORDS_MAX {
+        let bank = records.len() % usize::from(banks);
+        let channel = rng.below(encoders.into()) as usize;
+        let pins = &mut pins[bank][channel];
+        *pins ^= rng.pick(&[1, 2]);
+        records.push(Fields::pins(channel as u8, *pins).in_bank(bank as u8));
+    }
+    log_of(banks, &records)
+}
+
+/// Of each bank by turns.
+fn reads(banks: u8) -> Vec<u8> {
     let mut rng = Rng::new(3);
+    let mut read = || match rng.below(8) {
+        0 => Fields::read(SELECT, 0, 0),
+        1 => Fields::read(I2C, 0, rng.pick(&[0, 1, 3])),
+        2..=4 => Fields::read(ENCODER, rng.below(10) as u8, rng.below(3) as u8),
+        _ => Fields::read(PWM, rng.below(20) as u8, rng.below(6) as u8),
+    };
     let records: Vec<Fields> = (0..RECORDS_MAX)
-        .map(|_| match rng.below(8) {
-            0 => Fields::read(SELECT, 0, 0),
-            1 => Fields::read(I2C, 0, rng.pick(&[0, 1, 3])),
-            2..=4 => Fields::read(ENCODER, rng.below(10) as u8, rng.below(3) as u8),
-            _ => Fields::read(PWM, rng.below(20) as u8, rng.below(6) as u8),
-        })
+        .map(|index| read().in_bank((index % usize::from(banks)) as u8))
         .collect();
-    log_of(&records)
+    log_of(banks, &records)
 }
 
-fn mix(most_ticks: u64) -> Vec<u8> {
+fn mix(banks: u8, most_ticks: u64) -> Vec<u8> {
     let settings = Settings {
+        edition: Some(edition(banks)),
         least_records: RECORDS_MAX,
         most_ticks,
         refused_percent: 0,
@@ -91,34 +120,38 @@ fn mix(most_ticks: u64) -> Vec<u8> {
     generate(2, &settings)
 }
 
-/// All twenty PWM channels at once.
-fn waits_only() -> Vec<u8> {
+/// All twenty PWM channels of each bank at once.
+fn waits_only(banks: u8) -> Vec<u8> {
     let mut rng = Rng::new(5);
-    let mut records = vec![Fields::write(SELECT, 0, 0, ALL_PWMS)];
-    for channel in 0..20 {
-        let cnfg = rng.pick(&[0, 4, 5]);
-        let values = [
-            cnfg,
-            rng.between(1, 7),
-            rng.below(65_536),
-            rng.below(65_536),
-        ];
-        let writes = (0..4).zip(values);
-        records
-            .extend(writes.map(|(register, value)| Fields::write(PWM, channel, register, value)));
+    let mut records = Vec::new();
+    let mut looks = Vec::new();
+    for bank in 0..banks {
+        records.push(Fields::write(SELECT, 0, 0, ALL_PWMS).in_bank(bank));
+        for channel in 0..20 {
+            let cnfg = rng.pick(&[0, 4, 5]);
+            let values = [
+                cnfg,
+                rng.between(1, 7),
+                rng.below(65_536),
+                rng.below(65_536),
+            ];
+            let writes = (0..4).zip(values);
+            let write = |(register, value)| Fields::write(PWM, channel, register, value);
+            records.extend(writes.map(|one| write(one).in_bank(bank)));
+            let look = [4, 5].map(|register| Fields::read(PWM, channel, register));
+            looks.extend(look.map(|read| read.in_bank(bank)));
+        }
     }
-    while records.len() < RECORDS_MAX - 40 {
+    while records.len() < RECORDS_MAX - looks.len() {
         records.push(Fields::ticks(rng.between(0, TICKS_MAX)));
     }
-    for channel in 0..20 {
-        records.extend([4, 5].map(|register| Fields::read(PWM, channel, register)));
-    }
-    log_of(&records)
+    records.extend(looks);
+    log_of(banks, &records)
 }
 
-fn log_of(records: &[Fields]) -> Vec<u8> {
+fn log_of(banks: u8, records: &[Fields]) -> Vec<u8> {
     let bytes: Vec<_> = records.iter().map(|fields| fields.to_bytes()).collect();
-    build(&[], &bytes)
+    build(edition(banks), &[], &bytes)
 }
 
 /// Half of the rates for PWM, half for SPI, as many of each size.

@@ -11,8 +11,11 @@
 #include "rivandoze.h"
 
 enum { GUARD = 64, ROOM = 1 << 20 };
-enum call { REPLAY, JUDGE };
+enum call { REPLAY, JUDGE, DUMP, DUMP_READ };
 enum place { BETWEEN_GUARDS, BEFORE_THE_END, BEHIND_THE_START, ALONE };
+
+/* The header's numbers are those of docs/WAVEFORM.md. */
+typedef char as_the_page_says[RVZ_DUMP_BYTES == 25207 && RVZ_NO_DUMP == 20 ? 1 : -1];
 
 static void stop(const char *why) {
     fprintf(stderr, "driver: %s\n", why);
@@ -112,6 +115,10 @@ static uint64_t answer_to(enum call call, const struct area *log, const struct a
         return rvz_replay(inside(log), log->len, inside(out), out->len);
     case JUDGE:
         return rvz_judge(inside(log), log->len, inside(beside), beside->len);
+    case DUMP:
+        return rvz_dump(inside(log), log->len, inside(out), out->len);
+    case DUMP_READ:
+        return rvz_dump_read(inside(log), log->len, inside(out), out->len);
     }
     stop("no such call");
     return 0;

@@ -57,3 +57,34 @@ uint64_t __wrap_rvz_judge(const uint8_t *log, size_t log_len, const uint8_t *tra
     if (strcmp(wrong, "judge-writes-transcript") == 0 && transcript_len > 0) change((uint8_t *)transcript);
     return answer;
 }
+
+uint64_t __real_rvz_dump(const uint8_t *log, size_t log_len, uint8_t *out, size_t out_len);
+uint64_t __wrap_rvz_dump(const uint8_t *log, size_t log_len, uint8_t *out, size_t out_len);
+uint64_t __real_rvz_dump_read(const uint8_t *text, size_t text_len, uint8_t *out, size_t out_len);
+uint64_t __wrap_rvz_dump_read(const uint8_t *text, size_t text_len, uint8_t *out, size_t out_len);
+
+/* What WRONG says behind the name of the call. */
+static void touch(const char *call, const uint8_t *input, size_t input_len, uint8_t *out, size_t out_len) {
+    const char *wrong = getenv("WRONG");
+    if (strncmp(wrong, call, strlen(call)) != 0) return;
+    wrong += strlen(call);
+    if (strcmp(wrong, "-reads-before-input") == 0) look(input - 1);
+    if (strcmp(wrong, "-reads-behind-input") == 0) look(input + input_len);
+    if (strcmp(wrong, "-reads-before-output") == 0) look(out - 1);
+    if (strcmp(wrong, "-reads-behind-output") == 0) look(out + out_len);
+    if (strcmp(wrong, "-writes-input") == 0 && input_len > 0) change((uint8_t *)input);
+    if (strcmp(wrong, "-writes-before-output") == 0) change(out - 1);
+    if (strcmp(wrong, "-writes-behind-output") == 0) change(out + out_len);
+}
+
+uint64_t __wrap_rvz_dump(const uint8_t *log, size_t log_len, uint8_t *out, size_t out_len) {
+    uint64_t answer = __real_rvz_dump(log, log_len, out, out_len);
+    touch("dump", log, log_len, out, out_len);
+    return answer;
+}
+
+uint64_t __wrap_rvz_dump_read(const uint8_t *text, size_t text_len, uint8_t *out, size_t out_len) {
+    uint64_t answer = __real_rvz_dump_read(text, text_len, out, out_len);
+    touch("dump-read", text, text_len, out, out_len);
+    return answer;
+}

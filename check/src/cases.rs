@@ -3,13 +3,18 @@
 //! A seed and a size give the same requests on every machine.
 
 mod by_chance;
+mod dumped;
 mod in_order;
 mod judged;
+
+pub use dumped::longest_dump;
 
 use crate::exchange::{Call, Request, PLACES};
 use crate::generate::Rng;
 use crate::reference::log::{records, READING_LEN, RECORDS_MAX};
-use crate::reference::record::{Fields, ENCODER, I2C, PWM, READ, SELECT};
+use crate::reference::record::{Fields, ENCODER, I2C, PWM, READ, SELECT, TICKS};
+use crate::reference::Edition;
+use std::ops::Range;
 
 /// How many requests a family makes, where it could make any number.
 #[derive(Debug, Clone, Copy, PartialEq, Eq)]
@@ -77,9 +82,11 @@ pub const FAMILIES: &[Family] = &[
     family!("outputs of every length", false, in_order::outputs),
     family!("every access", false, in_order::accesses),
     family!("every bit of a record", false, in_order::bits),
+    family!("every byte for the bank", false, in_order::bank_bytes),
     family!("every five pins", false, in_order::pins),
     family!("every small PWM", false, in_order::pwms),
     family!("waits to every edge", false, in_order::waits),
+    family!("counters above MAX", false, in_order::counters_above),
     family!("every I2C code", false, in_order::i2c_codes),
     family!("every pair of pin functions", false, in_order::selects),
     family!("transcripts", true, judged::transcripts),
@@ -87,6 +94,23 @@ pub const FAMILIES: &[Family] = &[
     family!("every bit of a transcript", false, judged::bits),
     family!("transcripts of every length", false, judged::lengths),
     family!("transcripts beside refused logs", false, judged::refused),
+];
+
+/// For the dump and its reader.
+pub const DUMP_FAMILIES: &[Family] = &[
+    family!("dumps of pins", true, dumped::pins),
+    family!("dumps of full logs", true, dumped::full_logs),
+    family!("dumps of generated logs", true, dumped::generated),
+    family!("dumps of damaged logs", true, dumped::damaged),
+    family!("dumps of each encoder", false, dumped::each_encoder),
+    family!("dumps in every room", false, dumped::rooms),
+    family!("texts of dumps", true, dumped::texts_of_dumps),
+    family!("made texts", true, dumped::made_texts),
+    family!("damaged texts", true, dumped::damaged_texts),
+    family!("random texts", true, dumped::random_texts),
+    family!("every damage to a text", false, dumped::every_damage),
+    family!("times at every edge", false, dumped::times),
+    family!("texts of every length", false, dumped::text_lengths),
 ];
 
 /// A log lent with an output of the given length, somewhere.
@@ -123,8 +147,35 @@ fn lent_well(log: Vec<u8>, rng: &mut Rng) -> Request {
     lent(log, out_len, rng)
 }
 
-/// A read of each register that can be read, of each channel.
-fn all_reads() -> impl Iterator<Item = Fields> {
+fn banks(edition: Edition) -> Range<u8> {
+    0..1 + u8::from(edition.rules().bank_b)
+}
+
+fn some_bank(edition: Edition, rng: &mut Rng) -> u8 {
+    rng.below(banks(edition).len() as u64) as u8
+}
+
+/// The same records for this bank, but for ticks, which are for all.
+fn in_bank(bank: u8, records: &[Fields]) -> Vec<Fields> {
+    let moved = records.iter().map(|fields| match fields.kind {
+        TICKS => *fields,
+        _ => fields.in_bank(bank),
+    });
+    moved.collect()
+}
+
+/// A read of each register that can be read, of each channel of each bank.
+fn all_reads(edition: Edition) -> impl Iterator<Item = Fields> {
+    banks(edition)
+        .flat_map(move |bank| reads_of_a_bank(edition).map(move |read| read.in_bank(bank)))
+}
+
+fn reads_of_a_bank(edition: Edition) -> impl Iterator<Item = Fields> {
+    let of_i2c: &[u8] = if edition.rules().slaves_answer {
+        &[0, 1, 3, 4]
+    } else {
+        &[0, 1, 3]
+    };
     let of = |block, channels: u8, registers: &'static [u8]| {
         (0..channels).flat_map(move |channel| {
             let read = move |&register| Fields::read(block, channel, register);
@@ -134,7 +185,7 @@ fn all_reads() -> impl Iterator<Item = Fields> {
     of(SELECT, 1, &[0])
         .chain(of(ENCODER, 10, &[0, 1, 2]))
         .chain(of(PWM, 20, &[0, 1, 2, 3, 4, 5]))
-        .chain(of(I2C, 1, &[0, 1, 3]))
+        .chain(of(I2C, 1, of_i2c))
 }
 
 /// What refusal 6 asks of the output; little where it does not come to that.

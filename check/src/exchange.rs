@@ -19,15 +19,19 @@ pub const GUARD_LEN: usize = 64;
 pub enum Call {
     Replay = 0,
     Judge = 1,
+    Dump = 2,
+    DumpRead = 3,
 }
 
-pub const CALLS: [Call; 2] = [Call::Replay, Call::Judge];
+pub const CALLS: [Call; 4] = [Call::Replay, Call::Judge, Call::Dump, Call::DumpRead];
 
 impl Call {
     pub fn name(self) -> &'static str {
         match self {
             Call::Replay => "replay",
             Call::Judge => "judge",
+            Call::Dump => "dump",
+            Call::DumpRead => "dump-read",
         }
     }
 
@@ -78,6 +82,7 @@ impl Place {
 #[derive(Debug, Clone, PartialEq, Eq)]
 pub struct Request {
     pub call: Call,
+    /// A log, or the text for the dump's reader.
     pub log: Vec<u8>,
     /// What is lent beside the log: the judge's transcript.
     pub beside: Vec<u8>,
@@ -149,6 +154,8 @@ impl Request {
         let word = match self.call {
             Call::Replay => packed::replay(&self.log, area.out()),
             Call::Judge => packed::judge(&self.log, &self.beside),
+            Call::Dump => packed::dump(&self.log, area.out()),
+            Call::DumpRead => packed::dump_read(&self.log, area.out()),
         };
         Answer {
             word,

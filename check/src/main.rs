@@ -2,11 +2,14 @@
 //! and for writing logs by hand.
 
 use rivandoze_check::generate::{generate, Settings};
+use rivandoze_check::reference::dump::DUMP_MAX;
+use rivandoze_check::reference::dump_read::Entry;
 use rivandoze_check::reference::judge::{negated, transcript};
 use rivandoze_check::reference::log::{each_reading, LOG_MAX, READING_LEN, RECORDS_MAX};
 use rivandoze_check::reference::refusal::Refusal;
 use rivandoze_check::reference::{
-    find_pwm, find_spi, judge, rate_pwm, rate_spi, replay_fully, Outcome, Pair, Verdict,
+    dump, dump_read, find_pwm, find_spi, judge, rate_pwm, rate_spi, replay_fully, Outcome, Pair,
+    Verdict,
 };
 use rivandoze_check::text::{from_text, to_text};
 use std::fmt::Write as _;
@@ -20,6 +23,8 @@ rvz-check state                 the same, and show the end state
 rvz-check judge FILE            a reader's transcript in a file against the log on standard input
 rvz-check transcript [negated]  the transcript of the log on standard input, or the one with every
                                 encoder CNTR reading negated
+rvz-check dump                  the dump of the log on standard input, by docs/WAVEFORM.md
+rvz-check dump-read             such a dump read back: time, bank, encoder and pins, a line each
 rvz-check pwm RATE TOL          find a divider choice and X for a rate in millihertz
 rvz-check spi RATE TOL
 rvz-check pwm-rate CHOICE X     the rate that registers give
@@ -57,7 +62,7 @@ fn answer(words: &[&str]) -> Result<Vec<u8>, String> {
         ["state"] => {
             let whole = replayed(&input(LOG_MAX + 1)?);
             let verdict = readings_and_verdict(&whole);
-            format!("{verdict}{:#?}\n", whole.outcome.bank)
+            format!("{verdict}{:#?}\n", whole.outcome.banks)
         }
         ["judge", file] => {
             let transcript = transcript_in(file).map_err(|error| format!("{file}: {error}"))?;
@@ -65,6 +70,14 @@ fn answer(words: &[&str]) -> Result<Vec<u8>, String> {
         }
         ["transcript"] => return Ok(transcript(&input(LOG_MAX + 1)?, |count| count)),
         ["transcript", "negated"] => return Ok(transcript(&input(LOG_MAX + 1)?, negated)),
+        ["dump"] => {
+            let text = dump(&input(LOG_MAX + 1)?);
+            return text.map_err(refused);
+        }
+        ["dump-read"] => match dump_read(&input(DUMP_MAX + 1)?) {
+            Ok(entries) => entries.iter().map(entry_line).collect(),
+            Err(refusal) => refused(refusal),
+        },
         ["pwm", rate, tol] => pair(find_pwm(number(rate)?, number(tol)?)),
         ["spi", rate, tol] => pair(find_spi(number(rate)?, number(tol)?)),
         ["pwm-rate", choice, x] => fraction(rate_pwm(number(choice)?, number(x)?)),
@@ -141,6 +154,16 @@ fn verdict(answer: Result<Verdict, Refusal>) -> String {
         Ok(Verdict::Different(index)) => format!("different {index}\n"),
         Err(refusal) => refused(refusal),
     }
+}
+
+fn entry_line(entry: &Entry) -> String {
+    let Entry {
+        time,
+        bank,
+        encoder,
+        pins,
+    } = entry;
+    format!("{time} bank {bank} encoder {encoder} pins {pins}\n")
 }
 
 fn pair(answer: Result<Pair, Refusal>) -> String {

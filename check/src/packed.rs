@@ -1,7 +1,7 @@
 //! The answers as single numbers, the way they cross the C boundary: refusal in the low byte, the
 //! rest 0 when refused but for the records applied.
 
-use crate::reference::refusal::{Refusal, NONE};
+use crate::reference::refusal::{Refusal, NONE, OUTPUT_TOO_SHORT};
 use crate::reference::{self, Pair, Verdict};
 
 pub fn replay(log: &[u8], out: &mut [u8]) -> u64 {
@@ -18,6 +18,34 @@ pub fn judge(log: &[u8], transcript: &[u8]) -> u64 {
         Err(refusal) => return refusal.into(),
     };
     u64::from(NONE) | number << 8 | index << 16
+}
+
+pub fn dump(log: &[u8], out: &mut [u8]) -> u64 {
+    match reference::dump(log) {
+        Ok(text) => laid(&text, text.len(), out),
+        Err(refusal) => refusal.into(),
+    }
+}
+
+pub fn dump_read(text: &[u8], out: &mut [u8]) -> u64 {
+    match reference::dump_read(text) {
+        Ok(entries) => {
+            let bytes: Vec<u8> = entries.iter().flat_map(|entry| entry.to_bytes()).collect();
+            laid(&bytes, entries.len(), out)
+        }
+        Err(refusal) => refusal.into(),
+    }
+}
+
+/// So many, where their bytes fit.
+fn laid(bytes: &[u8], number: usize, out: &mut [u8]) -> u64 {
+    match out.get_mut(..bytes.len()) {
+        Some(room) => {
+            room.copy_from_slice(bytes);
+            u64::from(NONE) | (number as u64) << 8
+        }
+        None => OUTPUT_TOO_SHORT.into(),
+    }
 }
 
 pub fn find_pwm(rate: u64, tol: u64) -> u64 {

@@ -9,19 +9,22 @@
 //! ticks 500
 //! write pwm 3 max 1000
 //! read pwm 3 level
+//! answer i2c 2                 # how the slave answers the next GO
 //! write i2c go 1
+//! bank 1 write select 0x5      # byte 4, where it is not 0
 //! raw 01 00 00 00 00 00 00 00 0A 00 00 00 00 00 00 00
 //! trailer distance 32 edition 1 mark 51 4D
 //! ```
 //!
 //! Words may be in capitals. Nothing is checked against the rules of replay: any channel up to 255
 //! and any value can be written, and every byte string has a text. The trailer line is needed only
-//! where the trailer is not the one that fits the records; each of its three parts may be left out,
-//! and `trailer none` leaves out the trailer.
+//! where the trailer is not the one of edition 1 that fits the records; each of its three parts may be
+//! left out, and `trailer none` leaves out the trailer.
 
+use crate::reference::edition::Edition;
 use crate::reference::log::{each_record, Trailer};
 use crate::reference::record::{
-    Fields, ENCODER, I2C, PINS, PWM, READ, RECORD_LEN, SELECT, TICKS, WRITE,
+    Fields, ANSWER, ENCODER, I2C, PINS, PWM, READ, RECORD_LEN, SELECT, TICKS, WRITE,
 };
 use std::fmt::Write;
 use std::str::SplitWhitespace;
@@ -60,7 +63,7 @@ const BLOCKS: [Block; 4] = [
         name: "i2c",
         number: I2C,
         has_channels: false,
-        registers: &["addr", "cntl", "go", "state"],
+        registers: &["addr", "cntl", "go", "state", "failure"],
     },
 ];
 
@@ -86,15 +89,13 @@ pub fn to_text(log: &[u8]) -> String {
         text.push_str(&record_to_text(record));
         text.push('\n');
     }
-    if fitting_trailer(records.len()) != Some(trailer) {
-        text.push_str(&trailer_to_text(trailer));
-        text.push('\n');
-    }
+    text.push_str(&trailer_to_text(trailer, fitting_trailer(records.len())));
     text
 }
 
 fn fitting_trailer(records_len: usize) -> Option<Trailer> {
-    u32::try_from(records_len).ok().map(Trailer::of)
+    let distance = u32::try_from(records_len).ok()?;
+    Some(Trailer::of(Edition::One, distance))
 }
 
 fn notes_to_text(notes: &[u8], text: &mut String) {
@@ -129,20 +130,25 @@ fn hex(bytes: &[u8]) -> String {
 }
 
 fn named_record(fields: Fields) -> Option<String> {
-    let Fields { kind, value, .. } = fields;
-    if fields.reserved != [0; 4] {
+    let Fields { bank, value, .. } = fields;
+    if fields.reserved != 0 {
         return None;
     }
-    match kind {
-        WRITE if fields.block == SELECT => Some(format!("write {} 0x{value:X}", place(fields)?)),
-        WRITE => Some(format!("write {} {value}", place(fields)?)),
-        READ if value == 0 => Some(format!("read {}", place(fields)?)),
-        PINS if fields == Fields::pins(fields.channel, value) => {
-            Some(format!("pins encoder {} {value}", fields.channel))
+    let words = match fields.kind {
+        WRITE if fields.block == SELECT => format!("write {} 0x{value:X}", place(fields)?),
+        WRITE => format!("write {} {value}", place(fields)?),
+        READ if value == 0 => format!("read {}", place(fields)?),
+        PINS if fields == Fields::pins(fields.channel, value).in_bank(bank) => {
+            format!("pins encoder {} {value}", fields.channel)
         }
-        TICKS if fields == Fields::ticks(value) => Some(format!("ticks {value}")),
-        _ => None,
-    }
+        TICKS if fields == Fields::ticks(value).in_bank(bank) => format!("ticks {value}"),
+        ANSWER if fields == Fields::answer(value).in_bank(bank) => format!("answer i2c {value}"),
+        _ => return None,
+    };
+    Some(match bank {
+        0 => words,
+        _ => format!("bank {bank} {words}"),
+    })
 }
 
 fn place(fields: Fields) -> Option<String> {
@@ -160,13 +166,23 @@ fn place(fields: Fields) -> Option<String> {
     Some(words)
 }
 
-fn trailer_to_text(trailer: Trailer) -> String {
-    format!(
-        "trailer distance {} edition {} mark {}",
-        trailer.distance,
-        trailer.edition,
-        hex(&trailer.mark)
-    )
+/// The line for what is otherwise than fits, if anything is.
+fn trailer_to_text(trailer: Trailer, fitting: Option<Trailer>) -> String {
+    let mut parts = String::new();
+    if fitting.map(|fits| fits.distance) != Some(trailer.distance) {
+        parts += &format!(" distance {}", trailer.distance);
+    }
+    if fitting.map(|fits| fits.edition) != Some(trailer.edition) {
+        parts += &format!(" edition {}", trailer.edition);
+    }
+    if fitting.map(|fits| fits.mark) != Some(trailer.mark) {
+        parts += &format!(" mark {}", hex(&trailer.mark));
+    }
+    if parts.is_empty() {
+        parts
+    } else {
+        format!("trailer{parts}\n")
+    }
 }
 
 // From text to bytes.
@@ -213,24 +229,15 @@ impl Reader {
         }
         let mut words = Words::of(rest);
         match keyword.to_ascii_lowercase().as_str() {
-            "write" => {
-                let (block, channel, register) = words.place()?;
-                let value = words.number("the value")?;
-                self.record(Fields::write(block, channel, register, value));
-            }
-            "read" => {
-                let (block, channel, register) = words.place()?;
-                self.record(Fields::read(block, channel, register));
-            }
-            "pins" => {
-                words.encoder()?;
-                let channel = words.number("the channel")?;
-                let value = words.number("the value")?;
-                self.record(Fields::pins(channel, value));
-            }
-            "ticks" => {
-                let value = words.number("the number of ticks")?;
-                self.record(Fields::ticks(value));
+            "bank" => {
+                let bank = words.number("the bank")?;
+                let keyword = words.next("what is for the bank")?;
+                let fields = words.record(keyword)?.ok_or_else(|| {
+                    format!(
+                        "`{keyword}` is none of write, read, pins, answer, ticks, which may have a bank"
+                    )
+                })?;
+                self.record(fields.in_bank(bank));
             }
             "raw" => {
                 let bytes = words.hex_bytes::<RECORD_LEN>()?;
@@ -238,9 +245,12 @@ impl Reader {
             }
             "trailer" => self.trailer = Some(words.trailer()?),
             _ => {
-                return Err(format!(
-                    "`{keyword}` is none of write, read, pins, ticks, raw, note, trailer"
-                ))
+                let fields = words.record(keyword)?.ok_or_else(|| {
+                    format!(
+                        "`{keyword}` is none of write, read, pins, answer, ticks, bank, raw, note, trailer"
+                    )
+                })?;
+                self.record(fields);
             }
         }
         words.end()
@@ -344,6 +354,32 @@ impl<'a> Words<'a> {
         T::try_from(value).map_err(|_| format!("{what} `{word}` is too large"))
     }
 
+    /// A record of bank 0, or nothing if this is no keyword of one.
+    fn record(&mut self, keyword: &str) -> Result<Option<Fields>, String> {
+        let fields = match keyword.to_ascii_lowercase().as_str() {
+            "write" => {
+                let (block, channel, register) = self.place()?;
+                Fields::write(block, channel, register, self.number("the value")?)
+            }
+            "read" => {
+                let (block, channel, register) = self.place()?;
+                Fields::read(block, channel, register)
+            }
+            "answer" => {
+                self.named("i2c", "only i2c has slaves that answer")?;
+                Fields::answer(self.number("the value")?)
+            }
+            "pins" => {
+                self.named("encoder", "only an encoder has pins")?;
+                let channel = self.number("the channel")?;
+                Fields::pins(channel, self.number("the value")?)
+            }
+            "ticks" => Fields::ticks(self.number("the number of ticks")?),
+            _ => return Ok(None),
+        };
+        Ok(Some(fields))
+    }
+
     fn place(&mut self) -> Result<(u8, u8, u8), String> {
         let word = self.next("the block")?;
         let block = BLOCKS
@@ -378,12 +414,13 @@ impl<'a> Words<'a> {
             })
     }
 
-    fn encoder(&mut self) -> Result<(), String> {
-        let word = self.next("the word encoder")?;
-        if word.eq_ignore_ascii_case("encoder") {
+    /// The one block that can stand here.
+    fn named(&mut self, block: &str, why: &str) -> Result<(), String> {
+        let word = self.next(&format!("the word {block}"))?;
+        if word.eq_ignore_ascii_case(block) {
             Ok(())
         } else {
-            Err(format!("only an encoder has pins, `{word}` has none"))
+            Err(format!("{why}, `{word}` has none"))
         }
     }
 

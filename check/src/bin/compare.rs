@@ -1,7 +1,7 @@
 //! Compares a driver, which calls the library, with the reference: every word, and every byte of the
 //! output and of what lies around it.
 
-use rivandoze_check::cases::{Requests, Size, FAMILIES};
+use rivandoze_check::cases::{Family, Requests, Size, DUMP_FAMILIES, FAMILIES};
 use rivandoze_check::exchange::{Answer, Call, Place, Request};
 use rivandoze_check::reference::log::{records, READING_LEN};
 use rivandoze_check::reference::record::READ;
@@ -22,6 +22,7 @@ compare seconds N SEED DIR DRIVER..        logs by chance, for so many seconds
 compare rerun CALL FILE OUT PATTERN PLACE DRIVER..
                                            one log, with what was lent to it; what was lent beside it
                                            is in a file of the same name that ends in .beside
+Each of these, up to seconds, also as dump-full, dump-short and so on: the dump and its reader.
 A log that is answered otherwise than by the reference is written to DIR.
 ";
 
@@ -46,29 +47,34 @@ fn main() -> ExitCode {
 
 /// Whether all was as by the reference.
 fn run(words: &[String]) -> Result<bool, String> {
-    match words.first().map(String::as_str) {
-        Some("full") => full(&words[1..]),
-        Some("short") => short(&words[1..]),
-        Some("alone") => alone(&words[1..], 1),
-        Some("few") => alone(&words[1..], FEW),
-        Some("seconds") => for_seconds(&words[1..]),
-        Some("rerun") => rerun(&words[1..]),
+    let (mode, words) = words.split_first().ok_or(USAGE)?;
+    let (families, mode) = match mode.strip_prefix("dump-") {
+        Some(mode) => (DUMP_FAMILIES, mode),
+        None => (FAMILIES, mode.as_str()),
+    };
+    match mode {
+        "full" => full(families, words),
+        "short" => short(families, words),
+        "alone" => alone(families, words, 1),
+        "few" => alone(families, words, FEW),
+        "seconds" => for_seconds(families, words),
+        "rerun" => rerun(words),
         _ => Err(USAGE.into()),
     }
 }
 
-fn full(words: &[String]) -> Result<bool, String> {
+fn full(families: &[Family], words: &[String]) -> Result<bool, String> {
     let against = Against::from_words(words)?;
     let mut good = true;
-    for family in FAMILIES {
+    for family in families {
         good &= against.compare(family.name, family.requests(against.seed, Size::Full))?;
     }
     Ok(good)
 }
 
-fn short(words: &[String]) -> Result<bool, String> {
+fn short(families: &[Family], words: &[String]) -> Result<bool, String> {
     let against = Against::from_words(words)?;
-    for family in FAMILIES {
+    for family in families {
         if !against.compare(family.name, family.requests(against.seed, Size::Short))? {
             return Ok(false);
         }
@@ -77,10 +83,10 @@ fn short(words: &[String]) -> Result<bool, String> {
 }
 
 /// For a driver whose heap is watched, and which may be slow to start.
-fn alone(words: &[String], every: usize) -> Result<bool, String> {
+fn alone(families: &'static [Family], words: &[String], every: usize) -> Result<bool, String> {
     let against = Against::from_words(words)?;
     let seed = against.seed;
-    let requests = FAMILIES
+    let requests = families
         .iter()
         .flat_map(move |family| family.requests(seed, Size::Short).step_by(every))
         .map(|request| Request {
@@ -90,12 +96,12 @@ fn alone(words: &[String], every: usize) -> Result<bool, String> {
     against.compare("logs of every family", Box::new(requests))
 }
 
-fn for_seconds(words: &[String]) -> Result<bool, String> {
+fn for_seconds(families: &[Family], words: &[String]) -> Result<bool, String> {
     let (seconds, words) = words.split_first().ok_or(USAGE)?;
     let end = Instant::now() + Duration::from_secs(number(seconds)?);
     let mut against = Against::from_words(words)?;
     while Instant::now() < end {
-        for family in FAMILIES.iter().filter(|family| family.by_chance) {
+        for family in families.iter().filter(|family| family.by_chance) {
             if !against.compare(family.name, family.requests(against.seed, Size::Short))? {
                 return Ok(false);
             }
@@ -228,7 +234,7 @@ fn ask(requests: Requests, driver: &[String]) -> Result<Outcome, String> {
         }
         let newly_applied = match request.call {
             Call::Replay => wanted.word >> 8,
-            Call::Judge => 0,
+            Call::Judge | Call::Dump | Call::DumpRead => 0,
         };
         outcome = (index + 1, applied + newly_applied);
     }
@@ -300,6 +306,9 @@ impl Difference {
 
     /// The read whose reading has this byte of the output.
     fn reading_at(&self, at: isize) -> Option<String> {
+        if self.request.call != Call::Replay {
+            return None;
+        }
         let reading = usize::try_from(at).ok()? / READING_LEN;
         let mut reads = (0..)
             .zip(records(&self.request.log).ok()?)
@@ -317,6 +326,8 @@ fn word(call: Call, word: u64) -> String {
             let (verdict, index) = (word >> 8 & 0xFF, word >> 16);
             format!("verdict {verdict} index {index} refused {refused}")
         }
+        Call::Dump => format!("length {} refused {refused}", word >> 8),
+        Call::DumpRead => format!("entries {} refused {refused}", word >> 8),
     }
 }
 

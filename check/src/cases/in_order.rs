@@ -1,9 +1,13 @@
 //! Families that go through everything of a kind.
 
-use super::{all_reads, lent, lent_well, needed, Requests, Size};
+use super::{
+    all_reads, banks, in_bank, lent, lent_well, needed, reads_of_a_bank, some_bank, Requests, Size,
+};
 use crate::exchange::{Request, PLACES};
 use crate::generate::{generate, Rng, Settings};
-use crate::reference::log::{build, Trailer, EDITION, LOG_MAX, MARK, RECORDS_MAX, TRAILER_LEN};
+use crate::reference::edition::{Edition, EDITIONS};
+use crate::reference::i2c::STATE;
+use crate::reference::log::{build, Trailer, LOG_MAX, MARK, RECORDS_MAX, TRAILER_LEN};
 use crate::reference::record::{Fields, ENCODER, I2C, PWM, RECORD_LEN, SELECT, TICKS_MAX};
 use std::collections::BTreeSet;
 
@@ -11,9 +15,22 @@ pub const ALL_ENCODERS: u64 = 0xAA_AAAA_AAAA;
 const ALL_PWMS: u64 = 0x55_5555_5555;
 const I2C_PINS: u64 = 0xF << 28;
 
-pub fn log_of(records: &[Fields]) -> Vec<u8> {
+pub fn log_of(edition: Edition, records: &[Fields]) -> Vec<u8> {
     let bytes: Vec<_> = records.iter().map(|fields| fields.to_bytes()).collect();
-    build(&[], &bytes)
+    build(edition, &[], &bytes)
+}
+
+/// All of them again for each edition.
+fn in_each_edition<I: Iterator>(all: fn() -> I) -> impl Iterator<Item = (Edition, I::Item)> {
+    EDITIONS
+        .into_iter()
+        .flat_map(move |edition| all().map(move |one| (edition, one)))
+}
+
+/// A log of these records in some bank.
+fn lent_somewhere(edition: Edition, records: &[Fields], rng: &mut Rng) -> Request {
+    let records = in_bank(some_bank(edition, rng), records);
+    lent_well(log_of(edition, &records), rng)
 }
 
 fn made_log(most_records: usize, rng: &mut Rng) -> Vec<u8> {
@@ -70,7 +87,7 @@ fn logs_of_length(len: usize, rng: &mut Rng) -> Vec<Vec<u8>> {
     }
     let whole = in_front - notes_len;
     for distance in [0, whole, whole + RECORD_LEN, in_front, len] {
-        let trailer = Trailer::of(distance as u32).to_bytes();
+        let trailer = Trailer::of(rng.pick(&EDITIONS), distance as u32).to_bytes();
         logs.push([front.as_slice(), &trailer].concat());
     }
     logs
@@ -81,19 +98,20 @@ fn with_trailer(log: &[u8], trailer: Trailer) -> Vec<u8> {
 }
 
 /// Notes, then a few records with two reads.
-fn small_log() -> Vec<u8> {
+fn small_log(edition: Edition) -> Vec<u8> {
     let records = [
         Fields::write(SELECT, 0, 0, ALL_ENCODERS),
         Fields::read(SELECT, 0, 0),
         Fields::ticks(1),
         Fields::read(ENCODER, 3, 2),
     ];
-    build(&[2; 21], &records.map(Fields::to_bytes))
+    build(edition, &[2; 21], &records.map(Fields::to_bytes))
 }
 
 /// Every distance up to beyond the log, and every one that is a few bits away from a right one.
 pub fn distances(mut rng: Rng, _: Size) -> Requests {
-    let log = small_log();
+    let edition = rng.pick(&EDITIONS);
+    let log = small_log(edition);
     let len = log.len() as u32;
     let right = [0, 16, 64, 80].into_iter();
     let flipped = right.flat_map(|right| {
@@ -104,19 +122,22 @@ pub fn distances(mut rng: Rng, _: Size) -> Requests {
         .chain(flipped)
         .chain(u32::MAX - 40..=u32::MAX);
     Box::new(distances.map(move |distance| {
-        let near = with_trailer(&log, Trailer::of(distance));
+        let near = with_trailer(&log, Trailer::of(edition, distance));
         lent_well(near, &mut rng)
     }))
 }
 
-/// Every edition; with some of them the distance is wrong too.
+/// Every number for an edition; with some that are none the distance is wrong too.
 pub fn editions(mut rng: Rng, size: Size) -> Requests {
-    let log = small_log();
-    Box::new(numbers(size).map(move |edition| {
-        let distance = rng.pick(&[64, 64, 65]);
+    let log = small_log(Edition::One);
+    Box::new(numbers(size).map(move |number| {
+        let distance = match Edition::from_number(number) {
+            Some(_) => 64,
+            None => rng.pick(&[64, 64, 65]),
+        };
         let near = Trailer {
-            edition,
-            ..Trailer::of(if edition == EDITION { 64 } else { distance })
+            edition: number,
+            ..Trailer::of(Edition::One, distance)
         };
         lent(with_trailer(&log, near), 16, &mut rng)
     }))
@@ -124,15 +145,15 @@ pub fn editions(mut rng: Rng, size: Size) -> Requests {
 
 /// Every mark; with some of them the edition and the distance are wrong too.
 pub fn marks(mut rng: Rng, size: Size) -> Requests {
-    let log = small_log();
+    let log = small_log(Edition::One);
     Box::new(numbers(size).map(move |mark| {
         let near = Trailer {
             distance: rng.pick(&[64, 64, 65]),
-            edition: rng.pick(&[1, 1, 2]),
+            edition: rng.pick(&[1, 1, 0]),
             mark: mark.to_le_bytes(),
         };
         let near = if near.mark == MARK {
-            Trailer::of(64)
+            Trailer::of(Edition::One, 64)
         } else {
             near
         };
@@ -163,12 +184,14 @@ pub fn outputs(mut rng: Rng, _: Size) -> Requests {
 }
 
 fn log_with_reads(reads: usize, rng: &mut Rng) -> Vec<u8> {
+    let edition = rng.pick(&EDITIONS);
     let mut records = Vec::new();
     for _ in 0..reads {
         if reads < RECORDS_MAX && rng.chance(30) {
             records.push(Fields::ticks(1));
         }
-        records.push(Fields::read(PWM, rng.below(20) as u8, rng.below(6) as u8));
+        let read = Fields::read(PWM, rng.below(20) as u8, rng.below(6) as u8);
+        records.push(read.in_bank(some_bank(edition, rng)));
     }
     if rng.chance(50) && reads > 0 {
         // Refused, or the first of the reads that do not count as listed: all need room.
@@ -176,7 +199,7 @@ fn log_with_reads(reads: usize, rng: &mut Rng) -> Vec<u8> {
         let odd = Fields::read(I2C, 0, 2);
         records[at] = rng.pick(&[odd, Fields { value: 1, ..odd }]);
     }
-    log_of(&records)
+    log_of(edition, &records)
 }
 
 const VALUES: [u64; 22] = [
@@ -207,7 +230,27 @@ const VALUES: [u64; 22] = [
 /// Every kind, block, channel and register next to those that are listed, with edges of values; then
 /// a read of the same register.
 pub fn accesses(mut rng: Rng, size: Size) -> Requests {
-    let kinds = [0, 1, 2, 3, 4, 5, 0x81, 0x82, 255];
+    let step = size.of(79, 1) as usize;
+    let all = in_each_edition(every_access).step_by(step);
+    Box::new(all.map(move |(edition, access)| {
+        let mut select = |bank| {
+            let value = rng.pick(&[0, ALL_ENCODERS, ALL_PWMS, ALL_PWMS | I2C_PINS]);
+            Fields::write(SELECT, 0, 0, value).in_bank(bank)
+        };
+        let mut records: Vec<Fields> = banks(edition).map(&mut select).collect();
+        let again = Fields {
+            kind: 2,
+            value: 0,
+            ..access
+        };
+        let accesses = in_bank(some_bank(edition, &mut rng), &[access, again]);
+        records.extend(accesses);
+        lent_well(log_of(edition, &records), &mut rng)
+    }))
+}
+
+fn every_access() -> impl Iterator<Item = Fields> {
+    let kinds = [0, 1, 2, 3, 4, 5, 6, 0x81, 0x82, 255];
     let blocks = [0, 1, 2, 3, 4, 255];
     let channels = (0..=21).chain([128, 255]);
     let registers = [0, 1, 2, 3, 4, 5, 6, 255];
@@ -215,7 +258,7 @@ pub fn accesses(mut rng: Rng, size: Size) -> Requests {
         let channels = channels.clone();
         channels.flat_map(move |channel| registers.map(|register| (block, channel, register)))
     });
-    let all = kinds.into_iter().flat_map(move |kind| {
+    kinds.into_iter().flat_map(move |kind| {
         let places = places.clone();
         places.flat_map(move |(block, channel, register)| {
             VALUES.map(|value| Fields {
@@ -227,63 +270,93 @@ pub fn accesses(mut rng: Rng, size: Size) -> Requests {
                 ..Fields::default()
             })
         })
-    });
-    let step = size.of(37, 1) as usize;
-    Box::new(all.step_by(step).map(move |access| {
-        let select = rng.pick(&[0, ALL_ENCODERS, ALL_PWMS, ALL_PWMS | I2C_PINS]);
-        let again = Fields {
-            kind: 2,
-            value: 0,
-            ..access
-        };
-        let log = log_of(&[Fields::write(SELECT, 0, 0, select), access, again]);
-        lent_well(log, &mut rng)
+    })
+}
+
+/// A record of each kind for each register, with every one of its bits turned over, in a short run in some
+/// edition and bank; then what shows what has become of the banks.
+pub fn bits(mut rng: Rng, size: Size) -> Requests {
+    let all =
+        |edition| one_of_each(edition).flat_map(|fields| (0..128).map(move |bit| (fields, bit)));
+    let turned = EDITIONS
+        .into_iter()
+        .flat_map(move |edition| all(edition).map(move |turned| (edition, turned)));
+    let short = size == Size::Short;
+    let parts = EDITIONS
+        .map(|edition| banks(edition).len() as u64)
+        .iter()
+        .sum();
+    let mut sample = rng.clone();
+    let taken = turned.filter(move |_| !short || sample.below(parts) == 0);
+    Box::new(taken.map(move |(edition, (fields, bit))| {
+        let right = u128::from_le_bytes(fields.to_bytes());
+        shown(edition, (right ^ 1 << bit).to_le_bytes(), &mut rng)
     }))
 }
 
-/// A record of each kind for each register, with every one of its bits turned over; then what shows
-/// what has become of the bank.
-pub fn bits(mut rng: Rng, _: Size) -> Requests {
-    let turned = one_of_each().into_iter().flat_map(|fields| {
-        let right = u128::from_le_bytes(fields.to_bytes());
-        (0..u128::BITS).map(move |bit| (right ^ 1 << bit).to_le_bytes())
+/// The same records with every byte that might be the bank, in a short run with some.
+pub fn bank_bytes(mut rng: Rng, size: Size) -> Requests {
+    let all = EDITIONS.into_iter().flat_map(|edition| {
+        one_of_each(edition)
+            .flat_map(move |fields| (0..=u8::MAX).map(move |byte| (edition, fields, byte)))
     });
-    Box::new(turned.map(move |turned| {
-        let mut records: Vec<_> = all_on().into_iter().map(Fields::to_bytes).collect();
-        records.push(turned);
-        let more = [Fields::pins(ON_ENCODER, 3), Fields::ticks(77)];
-        records.extend(more.into_iter().chain(all_reads()).map(Fields::to_bytes));
-        lent_well(build(&[], &records), &mut rng)
+    let near = |byte: u8| byte <= 4 || byte.is_power_of_two() || byte == u8::MAX;
+    let taken = all.filter(move |&(_, _, byte)| size == Size::Full || near(byte));
+    Box::new(taken.map(move |(edition, fields, byte)| {
+        shown(edition, fields.in_bank(byte).to_bytes(), &mut rng)
     }))
+}
+
+/// The record behind those that turn all on, and then what shows what has become of the banks.
+fn shown(edition: Edition, record: [u8; RECORD_LEN], rng: &mut Rng) -> Request {
+    let more = [Fields::pins(ON_ENCODER, 3), Fields::ticks(77)];
+    let more = banks(edition).flat_map(|bank| in_bank(bank, &more));
+    let mut records: Vec<_> = all_on(edition).map(Fields::to_bytes).collect();
+    records.push(record);
+    records.extend(more.chain(all_reads(edition)).map(Fields::to_bytes));
+    lent_well(build(edition, &[], &records), rng)
+}
+
+/// One of each of a bank at work, in every bank.
+fn all_on(edition: Edition) -> impl Iterator<Item = Fields> {
+    banks(edition).flat_map(|bank| in_bank(bank, &all_on_in(bank)))
+}
+
+/// Each is applied behind those.
+fn one_of_each(edition: Edition) -> impl Iterator<Item = Fields> {
+    banks(edition).flat_map(move |bank| in_bank(bank, &one_of_each_in(edition, bank)))
 }
 
 const ON_ENCODER: u8 = 2;
 const ON_PWM: u8 = 9;
 
-/// Encoders, PWM channels and I2C routed side by side, and one of each at work.
-fn all_on() -> Vec<Fields> {
-    let select = 0xAAAA | 0x555 << 16 | I2C_PINS | 0x55 << 32;
+/// Encoders, PWM channels and I2C routed side by side, and one of each at work, otherwise in each bank.
+fn all_on_in(bank: u8) -> Vec<Fields> {
+    let other = u64::from(bank);
+    let select = 0xAAAA | 0x555 << 16 | I2C_PINS | (0x55 - other) << 32;
     vec![
         Fields::write(SELECT, 0, 0, select),
         Fields::write(ENCODER, ON_ENCODER, 0, 1),
         Fields::pins(ON_ENCODER, 0),
         Fields::write(PWM, ON_PWM, 0, 4),
         Fields::write(PWM, ON_PWM, 1, 2),
-        Fields::write(PWM, ON_PWM, 2, 40),
-        Fields::write(PWM, ON_PWM, 3, 20),
+        Fields::write(PWM, ON_PWM, 2, 40 + other),
+        Fields::write(PWM, ON_PWM, 3, 20 + other),
         Fields::ticks(33),
-        Fields::write(I2C, 0, 0, 8),
+        Fields::write(I2C, 0, 0, 8 + 2 * other),
         Fields::write(I2C, 0, 1, 0b0011),
     ]
 }
 
-/// Each is applied behind those.
-fn one_of_each() -> Vec<Fields> {
-    let mut records = all_on();
+fn one_of_each_in(edition: Edition, bank: u8) -> Vec<Fields> {
+    let mut records = all_on_in(bank);
+    if edition.rules().slaves_answer {
+        records.push(Fields::answer(2));
+    }
     records.push(Fields::write(PWM, ON_PWM, 0, 5));
     records.push(Fields::write(I2C, 0, 2, 1));
     records.push(Fields::pins(ON_ENCODER, 1));
-    records.extend(all_reads().filter(|read| match read.block {
+    records.extend(reads_of_a_bank(edition).filter(|read| match read.block {
         ENCODER => read.channel == ON_ENCODER,
         PWM => read.channel == ON_PWM,
         _ => true,
@@ -312,20 +385,22 @@ pub fn pins(mut rng: Rng, _: Size) -> Requests {
             records.push(Fields::pins(channel, rng.below(4)));
             records.push(Fields::read(ENCODER, channel, 1));
         }
-        lent_well(log_of(&records), &mut rng)
+        lent_somewhere(rng.pick(&EDITIONS), &records, &mut rng)
     }))
 }
 
 /// Every small MAX and CMP, either level first, three dividers, read after every tick.
 pub fn pwms(mut rng: Rng, _: Size) -> Requests {
-    let all = (0..5u64).flat_map(|max| {
-        (0..7u64).flat_map(move |cmp| {
-            [0, 1, 4, 5]
-                .into_iter()
-                .flat_map(move |cnfg| (1..=3u64).map(move |cs| (max, cmp, cnfg, cs)))
+    let all = in_each_edition(|| {
+        (0..5u64).flat_map(|max| {
+            (0..7u64).flat_map(move |cmp| {
+                [0, 1, 4, 5]
+                    .into_iter()
+                    .flat_map(move |cnfg| (1..=3u64).map(move |cs| (max, cmp, cnfg, cs)))
+            })
         })
     });
-    Box::new(all.map(move |(max, cmp, cnfg, cs)| {
+    Box::new(all.map(move |(edition, (max, cmp, cnfg, cs))| {
         let channel = rng.below(20) as u8;
         let mut records = vec![Fields::write(SELECT, 0, 0, ALL_PWMS)];
         let writes = [cnfg, cs, max, cmp];
@@ -346,7 +421,7 @@ pub fn pwms(mut rng: Rng, _: Size) -> Requests {
                 ));
             }
         }
-        lent_well(log_of(&records), &mut rng)
+        lent_somewhere(edition, &records, &mut rng)
     }))
 }
 
@@ -354,13 +429,15 @@ pub fn pwms(mut rng: Rng, _: Size) -> Requests {
 /// either side, and the longest with and without a remainder; then waits of powers of two, from a counter
 /// above the top.
 pub fn waits(mut rng: Rng, _: Size) -> Requests {
-    let all = (1..=7u64).flat_map(|cs| {
-        [0, 1, 4, 5].into_iter().flat_map(move |cnfg| {
-            let maxes = [0, 1, 2, 999, 65_534, 65_535u64].into_iter();
-            maxes.flat_map(move |max| cmps(max).map(move |cmp| [cnfg, cs, max, cmp]))
+    let all = in_each_edition(|| {
+        (1..=7u64).flat_map(|cs| {
+            [0, 1, 4, 5].into_iter().flat_map(move |cnfg| {
+                let maxes = [0, 1, 2, 999, 65_534, 65_535u64].into_iter();
+                maxes.flat_map(move |max| cmps(max).map(move |cmp| [cnfg, cs, max, cmp]))
+            })
         })
     });
-    Box::new(all.map(move |writes| {
+    Box::new(all.map(move |(edition, writes)| {
         let channel = rng.below(20) as u8;
         let write = |register: u8, value| Fields::write(PWM, channel, register, value);
         let look = [4, 5].map(|register| Fields::read(PWM, channel, register));
@@ -385,7 +462,7 @@ pub fn waits(mut rng: Rng, _: Size) -> Requests {
             ]);
             records.extend(look);
         }
-        lent_well(log_of(&records), &mut rng)
+        lent_somewhere(edition, &records, &mut rng)
     }))
 }
 
@@ -408,8 +485,77 @@ fn edges_of_waits([cnfg, cs, max, cmp]: [u64; 4]) -> Vec<u64> {
     waits.filter(|&ticks| ticks <= TICKS_MAX).collect()
 }
 
-/// Every state, R/S and control code, after a byte that was acknowledged and after one that was not;
-/// then STOP alone, which shows what is recalled.
+/// Counters at MAX and above it, near it and near 65,535, with CMP at every edge: read after every step, then
+/// led to where a counter that runs on comes to 65,535, and again read after every step.
+pub fn counters_above(mut rng: Rng, _: Size) -> Requests {
+    let all = in_each_edition(|| {
+        [0, 2, 65_533u64].into_iter().flat_map(|max| {
+            counters_from(max).flat_map(move |counter| {
+                edges_above(max, counter).flat_map(move |cmp| {
+                    [4, 5]
+                        .into_iter()
+                        .flat_map(move |cnfg| [1, 2u64].map(|cs| (max, counter, cmp, cnfg, cs)))
+                })
+            })
+        })
+    });
+    Box::new(all.map(move |(edition, (max, counter, cmp, cnfg, cs))| {
+        let channel = rng.below(20) as u8;
+        let write = |register: u8, value| Fields::write(PWM, channel, register, value);
+        let look = [4, 5].map(|register| Fields::read(PWM, channel, register));
+        let mut records = vec![
+            Fields::write(SELECT, 0, 0, ALL_PWMS),
+            write(0, cnfg),
+            write(1, 1),
+            write(3, rng.pick(&[0, 65_535])),
+            // An arrival at 0 for a first level.
+            Fields::ticks(rng.below(2)),
+            write(2, 65_535),
+            Fields::ticks(counter),
+            write(2, max),
+            write(3, cmp),
+            write(1, cs),
+        ];
+        let n = 1 << (cs - 1);
+        let led = [0, (65_532 - STEPS).saturating_sub(counter)];
+        for led in led {
+            records.push(Fields::ticks(n * led));
+            for _ in 0..STEPS {
+                records.push(Fields::ticks(n));
+                records.extend(look);
+            }
+        }
+        lent_somewhere(edition, &records, &mut rng)
+    }))
+}
+
+/// How many steps are looked at in a row.
+const STEPS: u64 = 8;
+
+fn counters_from(max: u64) -> impl Iterator<Item = u64> {
+    let near = [max, max + 1, max + 2, 300, 65_530, 65_534, 65_535];
+    let near: BTreeSet<u64> = near.into_iter().collect();
+    near.into_iter()
+        .filter(move |&at| max <= at && at <= 65_535)
+}
+
+fn edges_above(max: u64, counter: u64) -> impl Iterator<Item = u64> {
+    let edges = [
+        0,
+        max,
+        max + 1,
+        counter,
+        counter + 1,
+        counter + 3,
+        65_534,
+        65_535,
+    ];
+    let edges: BTreeSet<u64> = edges.into_iter().filter(|&cmp| cmp <= 65_535).collect();
+    edges.into_iter()
+}
+
+/// Every state, R/S and control code, after a byte that was acknowledged and after one that was not, and with
+/// every answer of the slave; then STOP alone, which shows what is recalled, or another byte.
 pub fn i2c_codes(mut rng: Rng, _: Size) -> Requests {
     // The codes that lead to idle, TX idle and RX idle, if any, by R/S and CNTL.
     let before = [
@@ -422,23 +568,42 @@ pub fn i2c_codes(mut rng: Rng, _: Size) -> Requests {
     let all = before.into_iter().flat_map(|before| {
         (0..2u64).flat_map(move |receive| (0..16u64).map(move |cntl| (before, receive, cntl)))
     });
-    Box::new(all.flat_map(move |(before, receive, cntl)| {
-        BETWEEN.map(|between| {
-            let mut records = vec![Fields::write(SELECT, 0, 0, I2C_PINS)];
-            records.extend(before.into_iter().flat_map(|(addr, cntl)| go(addr, cntl)));
-            records.extend(
-                between
-                    .iter()
-                    .map(|&value| Fields::write(SELECT, 0, 0, value)),
-            );
-            records.push(Fields::read(I2C, 0, 3));
-            records.extend(go((rng.below(128) << 1) | receive, cntl));
-            records.push(Fields::read(I2C, 0, 3));
-            records.extend(go(rng.below(256), rng.pick(&[0b0100, 0b1100])));
-            records.push(Fields::read(I2C, 0, 3));
-            lent_well(log_of(&records), &mut rng)
-        })
+    let all = all.flat_map(|(before, receive, cntl)| {
+        BETWEEN.map(|between| (before, between, receive, cntl))
+    });
+    Box::new(all.flat_map(move |(before, between, receive, cntl)| {
+        let mut requests = Vec::new();
+        for edition in EDITIONS {
+            let select = |&value| Fields::write(SELECT, 0, 0, value);
+            let look: Vec<Fields> = reads_of_a_bank(edition)
+                .filter(|read| read.block == I2C && read.register >= STATE)
+                .collect();
+            for answers in answers(edition, &mut rng) {
+                let mut records = vec![select(&I2C_PINS)];
+                records.extend(before.into_iter().flat_map(|(addr, cntl)| go(addr, cntl)));
+                records.extend(answers.into_iter().map(Fields::answer));
+                records.extend(between.iter().map(select));
+                records.extend(&look);
+                records.extend(go((rng.below(128) << 1) | receive, cntl));
+                records.extend(&look);
+                let then = rng.pick(&[0b0100, 0b1100, 0b0100, 0b1100, 0b0011, 0b0001]);
+                records.extend(go(rng.below(256), then));
+                records.extend(&look);
+                requests.push(lent_somewhere(edition, &records, &mut rng));
+            }
+        }
+        requests
     }))
+}
+
+/// None, each, and two of which the last counts.
+fn answers(edition: Edition, rng: &mut Rng) -> Vec<Vec<u64>> {
+    let mut answers = vec![Vec::new()];
+    if edition.rules().slaves_answer {
+        answers.extend((0..4).map(|answer| vec![answer]));
+        answers.push(vec![rng.below(4), rng.below(4)]);
+    }
+    answers
 }
 
 /// What is written to SELECT between two bytes: nothing, and away and back.
@@ -466,6 +631,6 @@ pub fn selects(mut rng: Rng, _: Size) -> Requests {
             touched,
             Fields::read(SELECT, 0, 0),
         ];
-        lent_well(log_of(&records), &mut rng)
+        lent_somewhere(rng.pick(&EDITIONS), &records, &mut rng)
     }))
 }

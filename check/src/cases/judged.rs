@@ -2,9 +2,10 @@
 
 use super::by_chance::short_log;
 use super::in_order::{log_of, ALL_ENCODERS};
-use super::{judged, Requests, Size};
+use super::{banks, in_bank, judged, Requests, Size};
 use crate::exchange::{Request, PLACES};
 use crate::generate::{change_bytes, generate, near_miss_trailer, Rng, Settings};
+use crate::reference::edition::EDITIONS;
 use crate::reference::encoder::{CNTR, STAT};
 use crate::reference::judge::{negated, transcript};
 use crate::reference::log::{build, each_reading, LOG_MAX, READING_LEN, RECORDS_MAX, TRAILER_LEN};
@@ -110,9 +111,9 @@ pub fn full_logs(mut rng: Rng, size: Size) -> Requests {
     }))
 }
 
-/// Counts of either sign between other readings; a count of 0, which is its own negative, alone; and a log
-/// without a count.
-fn small_logs() -> [Vec<u8>; 3] {
+/// Counts of either sign between other readings, of one bank and of the last too; a count of 0, which is its
+/// own negative, alone; and a log without a count.
+fn small_logs(rng: &mut Rng) -> [Vec<u8>; 4] {
     let count = Fields::read(ENCODER, 3, CNTR);
     let counts = [
         Fields::write(SELECT, 0, 0, ALL_ENCODERS),
@@ -130,12 +131,18 @@ fn small_logs() -> [Vec<u8>; 3] {
     ];
     let zero = [Fields::write(SELECT, 0, 0, ALL_ENCODERS), count, count];
     let none = [Fields::read(SELECT, 0, 0), Fields::read(ENCODER, 3, STAT)];
-    [log_of(&counts), log_of(&zero), log_of(&none)]
+    let edition = rng.pick(&EDITIONS);
+    let last = *EDITIONS.last().expect("there are editions");
+    let both: Vec<Fields> = banks(last)
+        .flat_map(|bank| in_bank(bank, &counts))
+        .collect();
+    let [counts, zero, none] = [&counts[..], &zero, &none].map(|records| log_of(edition, records));
+    [counts, log_of(last, &both), zero, none]
 }
 
 /// Right and negated transcripts, with each of their bits turned over, and with none.
 pub fn bits(mut rng: Rng, _: Size) -> Requests {
-    let pairs = small_logs().into_iter().flat_map(|log| {
+    let pairs = small_logs(&mut rng).into_iter().flat_map(|log| {
         let transcripts = [plain(&log), of_negated_counts(&log)];
         transcripts.map(|transcript| (log.clone(), transcript))
     });
@@ -156,7 +163,7 @@ pub fn bits(mut rng: Rng, _: Size) -> Requests {
 
 /// Right and negated transcripts cut and grown to every length, in every place.
 pub fn lengths(mut rng: Rng, _: Size) -> Requests {
-    Box::new(small_logs().into_iter().flat_map(move |log| {
+    Box::new(small_logs(&mut rng).into_iter().flat_map(move |log| {
         let mut requests = Vec::new();
         for right in [plain(&log), of_negated_counts(&log)] {
             for len in 0..=right.len() + 2 * READING_LEN + 1 {
@@ -191,7 +198,7 @@ pub fn refused(mut rng: Rng, size: Size) -> Requests {
 
 fn too_long(rng: &mut Rng) -> Vec<u8> {
     let notes = vec![0; LOG_MAX + 1 + rng.below(3) as usize - TRAILER_LEN];
-    build(&notes, &[])
+    build(rng.pick(&EDITIONS), &notes, &[])
 }
 
 fn refused_log(rng: &mut Rng) -> Vec<u8> {

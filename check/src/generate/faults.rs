@@ -1,8 +1,11 @@
 //! Records that are refused: refusals 7 to 11 and 16 in every clause.
 
 use super::maker::{select_value, set_pair, settled, Functions, Maker, I2C_PINS, SPI_PINS};
+use crate::reference::edition::{Edition, Rules};
 use crate::reference::encoder::{CNFG_MAX, PINS_MAX};
-use crate::reference::i2c::{State, ACK, ADDR_MAX, CNTL_MAX, START, STOP, TX_RX};
+use crate::reference::i2c::{
+    State, ACK, ADDR_MAX, ANSWER_MAX, CNTL_MAX, FAILURE, START, STOP, TX_RX,
+};
 use crate::reference::pwm::CS_MAX;
 use crate::reference::record::{Fields, ENCODER, I2C, PWM, READ, SELECT, TICKS_MAX, WRITE};
 use crate::reference::refusal::{
@@ -11,14 +14,22 @@ use crate::reference::refusal::{
 };
 
 /// The most records that a fault takes, with those that lead up to it.
-pub const MOST_RECORDS: usize = 8;
+pub const MOST_RECORDS: usize = 9;
 
 #[derive(Clone, Copy)]
 pub struct Fault {
     pub name: &'static str,
     pub refusal: Refusal,
+    /// Whether it is one by these rules.
+    when: fn(Rules) -> bool,
     /// Leads the log to where the record is refused, and gives the record.
     make: fn(&mut Maker) -> Fields,
+}
+
+impl Fault {
+    pub fn fits(&self, edition: Edition) -> bool {
+        (self.when)(edition.rules())
+    }
 }
 
 impl Maker {
@@ -30,9 +41,13 @@ impl Maker {
 
 macro_rules! fault {
     ($name:literal, $refusal:ident, $make:expr $(,)?) => {
+        fault!($name, $refusal, |_| true, $make)
+    };
+    ($name:literal, $refusal:ident, $when:expr, $make:expr $(,)?) => {
         Fault {
             name: $name,
             refusal: $refusal,
+            when: $when,
             make: $make,
         }
     };
@@ -40,8 +55,37 @@ macro_rules! fault {
 
 pub const FAULTS: &[Fault] = &[
     fault!("no such kind", RECORD_UNKNOWN, |maker| Fields {
-        kind: maker.rng.pick(&[0, 5, 6, 18, 129, 255]),
+        kind: maker.rng.pick(&[0, 6, 18, 129, 255]),
         ..maker.good_record()
+    }),
+    fault!(
+        "an answer where slaves do not",
+        RECORD_UNKNOWN,
+        |rules| !rules.slaves_answer,
+        |maker| {
+            maker.route_i2c();
+            Fields::answer(maker.rng.below(4))
+        },
+    ),
+    fault!("an answer of another block", RECORD_UNKNOWN, |maker| {
+        Fields {
+            block: maker.rng.pick(&[0, 1, 2, 4, 255]),
+            ..Fields::answer(0)
+        }
+    }),
+    fault!("an answer of another channel", RECORD_UNKNOWN, |maker| {
+        maker.route_i2c();
+        Fields {
+            channel: byte_above(maker, 0),
+            ..Fields::answer(3)
+        }
+    }),
+    fault!("an answer of another register", RECORD_UNKNOWN, |maker| {
+        maker.route_i2c();
+        Fields {
+            register: byte_above(maker, 0),
+            ..Fields::answer(3)
+        }
     }),
     fault!("no such block", RECORD_UNKNOWN, |maker| {
         let block = byte_above(maker, 3);
@@ -77,8 +121,13 @@ pub const FAULTS: &[Fault] = &[
     }),
     fault!("no such I2C register", RECORD_UNKNOWN, |maker| {
         maker.route_i2c();
-        let register = byte_above(maker, 3);
+        let last = 3 + u8::from(maker.rules().slaves_answer);
+        let register = byte_above(maker, last);
         access(maker, I2C, 0, register)
+    }),
+    fault!("write of the I2C failure", RECORD_UNKNOWN, |maker| {
+        maker.route_i2c();
+        Fields::write(I2C, 0, FAILURE, maker.rng.below(3))
     }),
     fault!(
         "write of an encoder's STAT or CNTR",
@@ -101,10 +150,17 @@ pub const FAULTS: &[Fault] = &[
         Fields::write(I2C, 0, 3, 0)
     }),
     fault!("read of GO", RECORD_UNKNOWN, |_| Fields::read(I2C, 0, 2)),
+    fault!("no such bank", RECORD_UNKNOWN, |maker| {
+        let bank = byte_above(maker, u8::from(maker.two_banks()));
+        maker.good_record().in_bank(bank)
+    }),
+    fault!("ticks with a bank", RECORD_UNKNOWN, |maker| {
+        Fields::ticks(1).in_bank(byte_above(maker, 0))
+    }),
     fault!("reserved byte", RECORD_UNKNOWN, |maker| {
         let mut fields = maker.good_record();
-        let index = maker.rng.below(4) as usize;
-        fields.reserved[index] = byte_above(maker, 0);
+        let place = 8 * maker.rng.below(3);
+        fields.reserved = u32::from(byte_above(maker, 0)) << place;
         fields
     }),
     fault!("read with a value", RECORD_UNKNOWN, |maker| Fields {
@@ -169,6 +225,17 @@ pub const FAULTS: &[Fault] = &[
         let above = maker.rng.above(1);
         Fields::write(I2C, 0, 2, maker.rng.pick(&[0, above]))
     }),
+    fault!(
+        "an answer above 3",
+        VALUE_OUT_OF_RANGE,
+        |rules| rules.slaves_answer,
+        |maker| {
+            if maker.rng.chance(80) {
+                maker.route_i2c();
+            }
+            Fields::answer(maker.rng.above(ANSWER_MAX))
+        },
+    ),
     fault!("pins above 3", VALUE_OUT_OF_RANGE, |maker| {
         let channel = some_encoder(maker);
         Fields::pins(channel, maker.rng.above(PINS_MAX))
@@ -193,6 +260,15 @@ pub const FAULTS: &[Fault] = &[
         maker.unroute_i2c();
         Fields::write(I2C, 0, maker.rng.below(3) as u8, 1)
     }),
+    fault!(
+        "an answer where I2C is not routed",
+        NOT_ROUTED,
+        |rules| rules.slaves_answer,
+        |maker| {
+            maker.unroute_i2c();
+            Fields::answer(maker.rng.below(4))
+        },
+    ),
     fault!(
         "a 3 where neither SPI nor I2C is",
         SELECT_NOT_ALLOWED,
@@ -286,6 +362,7 @@ pub const FAULTS: &[Fault] = &[
         STOP_AFTER_ACK,
         |maker| {
             maker.route_i2c();
+            maker.no_failure();
             maker.prepare_go(0x21, TX_RX | START | ACK);
             maker.write(I2C, 0, 2, 1);
             let (addr, ack) = (maker.rng.below(256) as u8, maker.rng.pick(&[0, ACK]));

@@ -1,12 +1,13 @@
-//! The log in the making, and the bank that follows it so that what comes next fits.
+//! The log in the making, and the device that follows it so that what comes next fits.
 
 use super::scenes;
 use super::Rng;
-use crate::reference::bank::{ENCODERS, PWMS};
-use crate::reference::i2c::{State, START, STOP, TX_RX};
+use crate::reference::bank::{Bank, ENCODERS, PWMS};
+use crate::reference::edition::{Edition, Rules};
+use crate::reference::i2c::{State, ANSWER_MAX, START, STOP, TX_RX};
 use crate::reference::log::{build, LOG_MAX, RECORDS_MAX};
-use crate::reference::record::{Fields, ENCODER, I2C, PWM, RECORD_LEN, SELECT, TICKS_MAX};
-use crate::reference::Bank;
+use crate::reference::record::{Fields, ENCODER, I2C, PWM, RECORD_LEN, SELECT, TICKS, TICKS_MAX};
+use crate::reference::Device;
 use std::ops::Range;
 
 const PINS: usize = 20;
@@ -17,50 +18,103 @@ pub const I2C_PINS: Range<usize> = 14..16;
 
 pub struct Maker {
     pub rng: Rng,
-    pub bank: Bank,
     pub most_ticks: u64,
+    /// The bank that is played in.
+    pub at: u8,
+    edition: Edition,
+    device: Device,
     records: Vec<[u8; RECORD_LEN]>,
     limit: usize,
+    /// How many of a hundred records find an echo in the other bank.
+    echo_percent: u64,
 }
 
 impl Maker {
-    pub fn new(rng: Rng, most_ticks: u64) -> Self {
+    pub fn new(rng: Rng, edition: Edition, most_ticks: u64) -> Self {
         Maker {
             rng,
-            bank: Bank::default(),
             most_ticks: most_ticks.min(TICKS_MAX),
+            at: 0,
+            edition,
+            device: Device::fresh(edition),
             records: Vec::new(),
             limit: RECORDS_MAX,
+            echo_percent: 0,
         }
     }
 
     /// Plays scenes until there are so many records.
     pub fn play_until(&mut self, wanted: usize) {
         self.limit = wanted;
+        self.echo_percent = if self.two_banks() { 10 } else { 0 };
         while self.records.len() < wanted {
             scenes::play(self);
         }
+        self.echo_percent = 0;
         self.limit = RECORDS_MAX;
     }
 
     pub fn finish(mut self, notes_percent: u64) -> Vec<u8> {
-        let log = build(&[], &self.records);
+        let log = build(self.edition, &[], &self.records);
         let room = (LOG_MAX - log.len()).min(100) as u64;
         if !self.rng.chance(notes_percent) {
             return log;
         }
         let len = self.rng.below(room + 1);
         let notes: Vec<u8> = (0..len).map(|_| self.rng.draw() as u8).collect();
-        build(&notes, &self.records)
+        build(self.edition, &notes, &self.records)
+    }
+
+    pub fn bank(&self) -> &Bank {
+        &self.device.banks[usize::from(self.at)]
+    }
+
+    pub fn two_banks(&self) -> bool {
+        self.device.rules.bank_b
+    }
+
+    pub fn choose_bank(&mut self) {
+        if self.two_banks() {
+            self.at = self.rng.below(2) as u8;
+        }
+    }
+
+    pub fn rules(&self) -> Rules {
+        self.device.rules
+    }
+
+    /// Adds a record for the bank that is played in, unless it names another.
+    pub fn put(&mut self, fields: Fields) {
+        let here = if fields.kind != TICKS && fields.bank == 0 {
+            fields.in_bank(self.at)
+        } else {
+            fields
+        };
+        self.push(here);
+        if fields.kind != TICKS && self.echo_percent > 0 && self.rng.chance(self.echo_percent) {
+            self.echo(fields);
+        }
+    }
+
+    /// The same record for the other bank, or else a read of the same register there, whichever is applied.
+    fn echo(&mut self, fields: Fields) {
+        let read = Fields::read(fields.block, fields.channel, fields.register);
+        let echoes = [fields, read].map(|fields| fields.in_bank(1 - self.at));
+        let mut applied = echoes
+            .into_iter()
+            .filter(|echo| self.device.clone().apply(echo).is_ok());
+        if let Some(echo) = applied.next() {
+            self.push(echo);
+        }
     }
 
     /// Adds a record, unless the scene has come to its limit.
-    pub fn put(&mut self, fields: Fields) {
+    fn push(&mut self, fields: Fields) {
         if self.records.len() >= self.limit {
             return;
         }
-        // A refusal leaves the bank as it is, and a reading is not needed here.
-        let _ = self.bank.apply(&fields);
+        // A refusal leaves the device as it is, and a reading is not needed here.
+        let _ = self.device.apply(&fields);
         self.records.push(fields.to_bytes());
     }
 
@@ -77,7 +131,7 @@ impl Maker {
     }
 
     pub fn functions(&self) -> Functions {
-        std::array::from_fn(|pin| (self.bank.select.0 >> (2 * pin)) as u8 & 3)
+        std::array::from_fn(|pin| (self.bank().select.0 >> (2 * pin)) as u8 & 3)
     }
 
     pub fn write_functions(&mut self, functions: Functions) {
@@ -85,11 +139,11 @@ impl Maker {
     }
 
     pub fn encoder_routed(&self, channel: u8) -> bool {
-        self.bank.select.encoder_routed(channel.into())
+        self.bank().select.encoder_routed(channel.into())
     }
 
     pub fn pwm_routed(&self, channel: u8) -> bool {
-        self.bank.select.pwm_routed(channel.into())
+        self.bank().select.pwm_routed(channel.into())
     }
 
     /// An encoder that is routed, if need be only now.
@@ -99,10 +153,16 @@ impl Maker {
             return self.rng.pick(&routed);
         }
         let channel = self.rng.below(ENCODERS as u64) as u8;
-        let mut functions = self.functions();
-        set_pair(&mut functions, channel, [2, 2]);
-        self.write_functions(settled(functions));
+        self.route_encoder(channel);
         channel
+    }
+
+    pub fn route_encoder(&mut self, channel: u8) {
+        if !self.encoder_routed(channel) {
+            let mut functions = self.functions();
+            set_pair(&mut functions, channel, [2, 2]);
+            self.write_functions(settled(functions));
+        }
     }
 
     /// An encoder that is not routed, if need be only now.
@@ -125,10 +185,16 @@ impl Maker {
             return self.rng.pick(&routed);
         }
         let channel = self.rng.below(PWMS as u64) as u8;
-        let mut functions = self.functions();
-        functions[usize::from(channel)] = 1;
-        self.write_functions(settled(functions));
+        self.route_pwm(channel);
         channel
+    }
+
+    pub fn route_pwm(&mut self, channel: u8) {
+        if !self.pwm_routed(channel) {
+            let mut functions = self.functions();
+            functions[usize::from(channel)] = 1;
+            self.write_functions(settled(functions));
+        }
     }
 
     /// A PWM channel that is not routed, if need be only now.
@@ -145,7 +211,7 @@ impl Maker {
     }
 
     pub fn route_i2c(&mut self) {
-        if !self.bank.select.i2c_routed() {
+        if !self.bank().select.i2c_routed() {
             let mut functions = self.functions();
             functions[I2C_PINS].fill(3);
             self.write_functions(settled(functions));
@@ -153,7 +219,7 @@ impl Maker {
     }
 
     pub fn unroute_i2c(&mut self) {
-        if self.bank.select.i2c_routed() {
+        if self.bank().select.i2c_routed() {
             let mut functions = self.functions();
             functions[I2C_PINS].fill(0);
             self.write_functions(settled(functions));
@@ -166,14 +232,22 @@ impl Maker {
         self.write(I2C, 0, 1, cntl.into());
     }
 
+    /// The next GO is acknowledged.
+    pub fn no_failure(&mut self) {
+        if self.bank().i2c.answer.is_some() {
+            self.put(Fields::answer(ANSWER_MAX));
+        }
+    }
+
     pub fn bring_i2c_to(&mut self, state: State) {
         self.route_i2c();
-        if self.bank.i2c.state == state {
+        if self.bank().i2c.state == state {
             return;
         }
+        self.no_failure();
         match state {
             // The last byte before STOP is not acknowledged.
-            State::Idle if self.bank.i2c.acknowledged => self.prepare_go(0x21, TX_RX | STOP),
+            State::Idle if self.bank().i2c.acknowledged => self.prepare_go(0x21, TX_RX | STOP),
             State::Idle => self.prepare_go(0, STOP),
             State::TxIdle => self.prepare_go(0x20, START | TX_RX),
             State::RxIdle => self.prepare_go(0x21, START | TX_RX),
@@ -188,7 +262,7 @@ impl Maker {
             1 => Fields::read(PWM, self.rng.below(20) as u8, self.rng.below(6) as u8),
             2 => Fields::ticks(self.rng.between(0, self.most_ticks)),
             3 => Fields::pins(self.routed_encoder(), self.rng.below(4)),
-            _ => Fields::write(SELECT, 0, 0, self.bank.select.0),
+            _ => Fields::write(SELECT, 0, 0, self.bank().select.0),
         }
     }
 }

@@ -5,7 +5,7 @@ use super::wait;
 use crate::reference::bank::ENCODERS;
 use crate::reference::clock::divider;
 use crate::reference::encoder::{A, B, CERR, COVR, EN, MODE, RST};
-use crate::reference::i2c::{I2c, State};
+use crate::reference::i2c::{I2c, State, FAILURE};
 use crate::reference::record::{Fields, ENCODER, I2C, PWM, SELECT};
 
 const CNFG: u8 = 0;
@@ -41,8 +41,15 @@ const SCENES: [(u64, Scene); 11] = [
     (8, read_anything),
 ];
 
+/// Scenes in both banks at once, where there are two.
+const TWINS: [Scene; 3] = [twin_walks, twin_waves, twin_talks];
+
 pub fn play(maker: &mut Maker) {
-    if maker.bank.select.0 == 0 && maker.rng.chance(70) {
+    if maker.two_banks() && maker.rng.chance(12) {
+        return maker.rng.pick(&TWINS)(maker);
+    }
+    maker.choose_bank();
+    if maker.bank().select.0 == 0 && maker.rng.chance(70) {
         let functions = random_functions(maker);
         return maker.write_functions(settled(functions));
     }
@@ -103,7 +110,7 @@ fn random_functions(maker: &mut Maker) -> Functions {
 
 fn encoder_settings(maker: &mut Maker) {
     let channel = maker.routed_encoder();
-    let now = maker.bank.encoders[usize::from(channel)].cnfg;
+    let now = maker.bank().encoders[usize::from(channel)].cnfg;
     let cnfg = match maker.rng.below(4) {
         0 => now,
         1 => now ^ maker.rng.pick(&[EN, RST, MODE]),
@@ -124,15 +131,7 @@ fn read_flags_or_count(maker: &mut Maker, channel: u8) {
 
 fn encoder_walk(maker: &mut Maker) {
     let channel = maker.routed_encoder();
-    let now = maker.bank.encoders[usize::from(channel)].cnfg;
-    if now & EN == 0 && maker.rng.chance(85) {
-        let mode = if maker.rng.chance(30) { MODE } else { 0 };
-        maker.write(ENCODER, channel, CNFG, (now & !MODE | EN | mode).into());
-    }
-    if now & RST != 0 && maker.rng.chance(70) {
-        let cnfg = maker.bank.encoders[usize::from(channel)].cnfg & !RST;
-        maker.write(ENCODER, channel, CNFG, cnfg.into());
-    }
+    let_it_count(maker, channel);
     let forward_percent = maker.rng.pick(&[5, 50, 95]);
     for _ in 0..maker.rng.between(1, 40) {
         walk_on(maker, channel, forward_percent);
@@ -144,9 +143,22 @@ fn encoder_walk(maker: &mut Maker) {
     maker.read(ENCODER, channel, STAT);
 }
 
+/// Mostly.
+fn let_it_count(maker: &mut Maker, channel: u8) {
+    let now = maker.bank().encoders[usize::from(channel)].cnfg;
+    if now & EN == 0 && maker.rng.chance(85) {
+        let mode = if maker.rng.chance(30) { MODE } else { 0 };
+        maker.write(ENCODER, channel, CNFG, (now & !MODE | EN | mode).into());
+    }
+    if now & RST != 0 && maker.rng.chance(70) {
+        let cnfg = maker.bank().encoders[usize::from(channel)].cnfg & !RST;
+        maker.write(ENCODER, channel, CNFG, cnfg.into());
+    }
+}
+
 fn walk_on(maker: &mut Maker, channel: u8, forward_percent: u64) {
     let any = maker.rng.below(4) as u8;
-    let old = maker.bank.encoders[usize::from(channel)]
+    let old = maker.bank().encoders[usize::from(channel)]
         .seen
         .unwrap_or(any);
     let new = match maker.rng.below(12) {
@@ -180,7 +192,7 @@ fn encoder_around_zero(maker: &mut Maker) {
         }
         maker.read(ENCODER, channel, STAT);
         if maker.rng.chance(20) {
-            let now = maker.bank.encoders[usize::from(channel)].cnfg;
+            let now = maker.bank().encoders[usize::from(channel)].cnfg;
             maker.write(ENCODER, channel, CNFG, (now ^ COVR).into());
             maker.read(ENCODER, channel, STAT);
         }
@@ -189,7 +201,7 @@ fn encoder_around_zero(maker: &mut Maker) {
 }
 
 fn counted_step(maker: &mut Maker, channel: u8, forward: bool) {
-    let encoder = &maker.bank.encoders[usize::from(channel)];
+    let encoder = &maker.bank().encoders[usize::from(channel)];
     if encoder.cnfg & MODE != 0 {
         let b = if forward { 0 } else { B };
         maker.put(Fields::pins(channel, b.into()));
@@ -223,6 +235,12 @@ fn encoder_route_again(maker: &mut Maker) {
 
 fn pwm_settings(maker: &mut Maker) {
     let channel = maker.routed_pwm();
+    pwm_write_all(maker, channel);
+    wait_and_look(maker, channel);
+}
+
+/// From some register on, and most of them.
+fn pwm_write_all(maker: &mut Maker, channel: u8) {
     let max = random_max(maker, channel);
     let cmp = random_cmp(maker, channel, max);
     let writes = [
@@ -237,11 +255,10 @@ fn pwm_settings(maker: &mut Maker) {
             maker.write(PWM, channel, register, value);
         }
     }
-    wait_and_look(maker, channel);
 }
 
 fn random_max(maker: &mut Maker, channel: u8) -> u64 {
-    let counter = u64::from(maker.bank.pwms[usize::from(channel)].counter);
+    let counter = u64::from(maker.bank().pwms[usize::from(channel)].counter);
     match maker.rng.below(4) {
         0 => maker.rng.pick(&[0, 1, 65_534, 65_535]),
         1 => (counter + maker.rng.below(3)).saturating_sub(1).min(65_535),
@@ -251,7 +268,7 @@ fn random_max(maker: &mut Maker, channel: u8) -> u64 {
 }
 
 fn random_cmp(maker: &mut Maker, channel: u8, max: u64) -> u64 {
-    let counter = u64::from(maker.bank.pwms[usize::from(channel)].counter);
+    let counter = u64::from(maker.bank().pwms[usize::from(channel)].counter);
     match maker.rng.below(5) {
         0 => maker.rng.pick(&[0, 1, 65_535]),
         1 => (max + maker.rng.below(3)).saturating_sub(1).min(65_535),
@@ -269,14 +286,19 @@ fn pwm_run(maker: &mut Maker) {
 }
 
 fn wait_and_look(maker: &mut Maker, channel: u8) {
-    let pwm = &maker.bank.pwms[usize::from(channel)];
+    let pwm = maker.bank().pwms[usize::from(channel)].clone();
     let n = divider(pwm.cs.into()).unwrap_or(1);
     let ticks = match maker.rng.below(5) {
         0 => maker.rng.below(3),
         1 => (n * maker.rng.between(1, 3) + maker.rng.below(3)).saturating_sub(1),
         2 => maker.rng.below(20),
         3 => maker.rng.between(0, maker.most_ticks.min(300)),
-        _ => wait(pwm, maker.most_ticks, &mut maker.rng),
+        _ => wait(
+            &pwm,
+            maker.rules().runs_on,
+            maker.most_ticks,
+            &mut maker.rng,
+        ),
     };
     maker.ticks(ticks);
     maker.read(PWM, channel, PWM_CNTR);
@@ -289,13 +311,21 @@ fn pwm_top_below_counter(maker: &mut Maker) {
     maker.write(PWM, channel, MAX, 65_535);
     maker.write(PWM, channel, CNFG, GENERATE | inverted);
     maker.write(PWM, channel, CS, 1);
-    let ahead = maker.rng.pick(&[40, 40, 60_000]);
+    let last = 65_535 - maker.rng.below(4);
+    let ahead = maker.rng.pick(&[40, 40, 60_000, last]);
     maker.ticks(ahead);
-    let counter = u64::from(maker.bank.pwms[usize::from(channel)].counter);
-    let max = maker.rng.below(counter + 1);
+    let counter = u64::from(maker.bank().pwms[usize::from(channel)].counter);
+    let any = maker.rng.below(counter + 1);
+    let max = maker
+        .rng
+        .pick(&[any, any, counter, counter.saturating_sub(1)]);
     maker.write(PWM, channel, MAX, max);
-    if maker.rng.chance(60) {
-        let cmp = random_cmp(maker, channel, max);
+    if maker.rng.chance(80) {
+        let cmp = match maker.rng.below(4) {
+            0 => (counter + maker.rng.below(4)).min(65_535),
+            1 => maker.rng.between(counter, 65_535),
+            _ => random_cmp(maker, channel, max),
+        };
         maker.write(PWM, channel, CMP, cmp);
     }
     let cs = maker.rng.pick(&[1, 1, 2, 3, 7]);
@@ -320,13 +350,7 @@ fn pwm_route_again(maker: &mut Maker) {
 fn i2c_talk(maker: &mut Maker) {
     maker.route_i2c();
     for _ in 0..maker.rng.between(1, 6) {
-        let (addr, cntl) = allowed_code(maker);
-        let same = maker.bank.i2c.addr == addr && maker.bank.i2c.cntl == cntl;
-        if !same || maker.rng.chance(50) {
-            maker.prepare_go(addr, cntl);
-        }
-        maker.write(I2C, 0, 2, 1);
-        maker.read(I2C, 0, 3);
+        i2c_byte(maker);
     }
     if maker.rng.chance(30) {
         maker.unroute_i2c();
@@ -335,8 +359,31 @@ fn i2c_talk(maker: &mut Maker) {
     maker.read(I2C, 0, 1);
 }
 
+fn i2c_byte(maker: &mut Maker) {
+    some_answers(maker);
+    let (addr, cntl) = allowed_code(maker);
+    let same = maker.bank().i2c.addr == addr && maker.bank().i2c.cntl == cntl;
+    if !same || maker.rng.chance(50) {
+        maker.prepare_go(addr, cntl);
+    }
+    some_answers(maker);
+    maker.write(I2C, 0, 2, 1);
+    maker.read(I2C, 0, 3);
+    if maker.rules().slaves_answer && maker.rng.chance(80) {
+        maker.read(I2C, 0, FAILURE);
+    }
+}
+
+/// How the slave answers the next GO: mostly left open, and rarely told twice.
+fn some_answers(maker: &mut Maker) {
+    while maker.rules().slaves_answer && maker.rng.chance(25) {
+        let answer = maker.rng.below(4);
+        maker.put(Fields::answer(answer));
+    }
+}
+
 fn allowed_code(maker: &mut Maker) -> (u8, u8) {
-    let now = maker.bank.i2c.clone();
+    let now = maker.bank().i2c.clone();
     let ends = |addr, cntl| I2c { addr, cntl, ..now }.after_go();
     let codes: Vec<(u8, u8)> = (0..2)
         .flat_map(|receive| (0..16).map(move |cntl| (receive, cntl)))
@@ -351,10 +398,66 @@ fn allowed_code(maker: &mut Maker) -> (u8, u8) {
     ((maker.rng.below(128) as u8) << 1 | receive, cntl)
 }
 
+/// The same encoder of both banks, which mostly walk apart.
+fn twin_walks(maker: &mut Maker) {
+    maker.choose_bank();
+    let channel = maker.routed_encoder();
+    for bank in 0..2 {
+        maker.at = bank;
+        maker.route_encoder(channel);
+        let_it_count(maker, channel);
+    }
+    for _ in 0..maker.rng.between(2, 40) {
+        maker.choose_bank();
+        let forward_percent = [95, 5][usize::from(maker.at)];
+        walk_on(maker, channel, forward_percent);
+        if maker.rng.chance(8) {
+            read_flags_or_count(maker, channel);
+        }
+    }
+    for bank in 0..2 {
+        maker.at = bank;
+        maker.read(ENCODER, channel, CNTR);
+        maker.read(ENCODER, channel, STAT);
+    }
+}
+
+/// The same PWM channel of both banks, on one clock.
+fn twin_waves(maker: &mut Maker) {
+    maker.choose_bank();
+    let channel = maker.routed_pwm();
+    for bank in 0..2 {
+        maker.at = bank;
+        maker.route_pwm(channel);
+        if maker.rng.chance(80) {
+            pwm_write_all(maker, channel);
+        }
+    }
+    for _ in 0..maker.rng.between(1, 6) {
+        maker.choose_bank();
+        wait_and_look(maker, channel);
+        maker.at = 1 - maker.at;
+        maker.read(PWM, channel, PWM_CNTR);
+        maker.read(PWM, channel, LEVEL);
+    }
+}
+
+fn twin_talks(maker: &mut Maker) {
+    for bank in 0..2 {
+        maker.at = bank;
+        maker.route_i2c();
+    }
+    for _ in 0..maker.rng.between(2, 8) {
+        maker.choose_bank();
+        i2c_byte(maker);
+    }
+}
+
 fn read_anything(maker: &mut Maker) {
     for _ in 0..maker.rng.between(1, 10) {
         let (block, channels, registers): (u8, u64, &[u8]) = match maker.rng.below(10) {
             0 => (SELECT, 1, &[0]),
+            1 if maker.rules().slaves_answer => (I2C, 1, &[0, 1, 3, FAILURE]),
             1 => (I2C, 1, &[0, 1, 3]),
             2..=4 => (ENCODER, 10, &[0, 1, 2]),
             _ => (PWM, 20, &[0, 1, 2, 3, 4, 5]),

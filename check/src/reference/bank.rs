@@ -1,9 +1,10 @@
-//! One bank: what each record does to it.
+//! One bank: what each record for it does.
 
+use super::edition::Rules;
 use super::encoder::{self, Encoder};
-use super::i2c::I2c;
+use super::i2c::{I2c, ANSWER_MAX};
 use super::pwm::Pwm;
-use super::record::{Fields, ENCODER, I2C, PINS, PWM, READ, SELECT, TICKS, TICKS_MAX, WRITE};
+use super::record::{ENCODER, I2C, PWM, SELECT};
 use super::refusal::{
     check, Refusal, NOT_ROUTED, RECORD_UNKNOWN, SELECT_NOT_ALLOWED, VALUE_OUT_OF_RANGE,
 };
@@ -21,26 +22,7 @@ pub struct Bank {
 }
 
 impl Bank {
-    /// Applies one record and gives its reading, if it is a read. A refused record changes nothing.
-    // Inlined, as are reads and pins, so that the walk over a log has no call for these.
-    #[inline(always)]
-    pub fn apply(&mut self, record: &Fields) -> Result<Option<u64>, Refusal> {
-        let (block, channel, register) = record.place();
-        check(record.reserved == [0; 4], RECORD_UNKNOWN)?;
-        match record.kind {
-            WRITE => self.write(block, channel, register, record.value)?,
-            READ if record.value == 0 => {
-                let reading = self.read(block, channel, register);
-                return reading.map(Some).ok_or(RECORD_UNKNOWN);
-            }
-            PINS if (block, register) == (ENCODER, 0) => self.pins(channel, record.value)?,
-            TICKS if (block, channel, register) == (0, 0, 0) => self.ticks(record.value)?,
-            _ => return Err(RECORD_UNKNOWN),
-        }
-        Ok(None)
-    }
-
-    fn write(
+    pub fn write(
         &mut self,
         block: u8,
         channel: usize,
@@ -75,18 +57,18 @@ impl Bank {
 
     /// The reading, or nothing where no such register can be read.
     #[inline(always)]
-    fn read(&self, block: u8, channel: usize, register: u8) -> Option<u64> {
+    pub fn read(&self, block: u8, channel: usize, register: u8, rules: Rules) -> Option<u64> {
         match block {
             SELECT if (channel, register) == (0, 0) => Some(self.select.0),
             ENCODER => self.encoders.get(channel)?.read(register),
             PWM => self.pwms.get(channel)?.read(register),
-            I2C if channel == 0 => self.i2c.read(register),
+            I2C if channel == 0 => self.i2c.read(register, rules.slaves_answer),
             _ => None,
         }
     }
 
     #[inline(always)]
-    fn pins(&mut self, channel: usize, value: u64) -> Result<(), Refusal> {
+    pub fn pins(&mut self, channel: usize, value: u64) -> Result<(), Refusal> {
         let encoder = self.encoders.get_mut(channel).ok_or(RECORD_UNKNOWN)?;
         check(value <= encoder::PINS_MAX, VALUE_OUT_OF_RANGE)?;
         check(self.select.encoder_routed(channel), NOT_ROUTED)?;
@@ -94,13 +76,19 @@ impl Bank {
         Ok(())
     }
 
-    fn ticks(&mut self, value: u64) -> Result<(), Refusal> {
-        check(value <= TICKS_MAX, VALUE_OUT_OF_RANGE)?;
+    /// How the slave answers the next GO.
+    pub fn answer(&mut self, value: u64) -> Result<(), Refusal> {
+        check(value <= ANSWER_MAX, VALUE_OUT_OF_RANGE)?;
+        check(self.select.i2c_routed(), NOT_ROUTED)?;
+        self.i2c.answer = Some(value as u8);
+        Ok(())
+    }
+
+    pub fn ticks(&mut self, count: u32, runs_on: bool) {
         for (pwm, routed) in self.pwms.iter_mut().zip(self.select.pwms()) {
             if routed {
-                pwm.ticks(value as u32);
+                pwm.ticks(count, runs_on);
             }
         }
-        Ok(())
     }
 }

@@ -8,6 +8,7 @@ pub const ADDR: u8 = 0;
 pub const CNTL: u8 = 1;
 pub const GO: u8 = 2;
 pub const STATE: u8 = 3;
+pub const FAILURE: u8 = 4;
 
 pub const RECEIVE: u8 = 1 << 0;
 pub const ADDR_MAX: u64 = 255;
@@ -20,12 +21,26 @@ pub const CNTL_MAX: u64 = 15;
 
 pub const GO_VALUE: u64 = 1;
 
+pub const ADDRESS_ANSWERED: u8 = 1 << 0;
+pub const DATA_ANSWERED: u8 = 1 << 1;
+pub const ANSWER_MAX: u64 = 3;
+const ALL_ANSWERED: u8 = ADDRESS_ANSWERED | DATA_ANSWERED;
+
 #[derive(Debug, Clone, Copy, PartialEq, Eq, Default)]
 pub enum State {
     #[default]
     Idle = 0,
     TxIdle = 1,
     RxIdle = 2,
+}
+
+/// What the slave did not acknowledge.
+#[derive(Debug, Clone, Copy, PartialEq, Eq, Default)]
+pub enum Failure {
+    #[default]
+    None = 0,
+    Address = 1,
+    Data = 2,
 }
 
 #[derive(Debug, Clone, PartialEq, Eq, Default)]
@@ -35,15 +50,20 @@ pub struct I2c {
     pub state: State,
     /// Whether the last received byte was acknowledged: false after a send and after a STOP.
     pub acknowledged: bool,
+    /// How the slave answers the next GO; without it, it acknowledges all.
+    pub answer: Option<u8>,
+    /// Of the last GO.
+    pub failure: Failure,
 }
 
 impl I2c {
     #[inline]
-    pub fn read(&self, register: u8) -> Option<u64> {
+    pub fn read(&self, register: u8, slaves_answer: bool) -> Option<u64> {
         match register {
             ADDR => Some(self.addr.into()),
             CNTL => Some(self.cntl.into()),
             STATE => Some(self.state as u64),
+            FAILURE if slaves_answer => Some(self.failure as u64),
             _ => None,
         }
     }
@@ -66,13 +86,31 @@ impl I2c {
     }
 
     fn go(&mut self) -> Result<(), Refusal> {
-        self.state = self.after_go()?;
+        let ends = self.after_go()?;
+        let answer = self.answer.take().unwrap_or(ALL_ANSWERED);
+        self.failure = self.failure_by(answer);
+        self.state = match self.failure {
+            Failure::Address => State::Idle,
+            Failure::Data | Failure::None => ends,
+        };
         // Only a byte that is received without STOP ends there.
         self.acknowledged = self.state == State::RxIdle && self.set(ACK);
         Ok(())
     }
 
-    /// The state that GO would end in.
+    /// There is an address only with START, and data that the slave acknowledges only when sending.
+    fn failure_by(&self, answer: u8) -> Failure {
+        let sends = self.set(TX_RX) && self.addr & RECEIVE == 0;
+        if self.set(START) && answer & ADDRESS_ANSWERED == 0 {
+            Failure::Address
+        } else if sends && answer & DATA_ANSWERED == 0 {
+            Failure::Data
+        } else {
+            Failure::None
+        }
+    }
+
+    /// The state that GO would end in, if the address is acknowledged.
     pub fn after_go(&self) -> Result<State, Refusal> {
         let ends = self.after_code().ok_or(GO_NOT_ALLOWED)?;
         let stops_alone = !self.set(TX_RX);

@@ -1,8 +1,8 @@
 //! The judge: the transcript of a reader against the replay.
 
-use super::bank::Bank;
+use super::device::Device;
 use super::encoder::CNTR;
-use super::log::{records, READING_LEN};
+use super::log::{Log, READING_LEN};
 use super::record::{Fields, ENCODER};
 use super::refusal::{Refusal, TRANSCRIPT_LENGTH_WRONG};
 use std::slice::ChunksExact;
@@ -20,11 +20,12 @@ pub enum Verdict {
 
 /// What a transcript is, or the log's refusal, or that of its length.
 pub fn judge(log: &[u8], transcript: &[u8]) -> Result<Verdict, Refusal> {
-    let mut bank = Bank::default();
+    let log = Log::open(log)?;
+    let mut device = Device::fresh(log.edition);
     let mut comparison = Comparison::with(transcript);
-    for bytes in records(log)? {
+    for bytes in log.records() {
         let record = Fields::from_bytes(bytes);
-        if let Some(reading) = bank.apply(&record)? {
+        if let Some(reading) = device.apply(&record)? {
             comparison.add(reading, is_count(&record));
         }
     }
@@ -43,9 +44,13 @@ pub fn negated(count: u64) -> u64 {
 
 /// What a reader writes down of a log, up to a refused record: its readings, with `said` of each count.
 pub fn transcript(log: &[u8], said: fn(u64) -> u64) -> Vec<u8> {
-    let mut bank = Bank::default();
-    let all = records(log).into_iter().flatten().map(Fields::from_bytes);
-    let readings = all.map_while(|record| match bank.apply(&record) {
+    let log = match Log::open(log) {
+        Ok(log) => log,
+        Err(_) => return Vec::new(),
+    };
+    let mut device = Device::fresh(log.edition);
+    let all = log.records().map(Fields::from_bytes);
+    let readings = all.map_while(|record| match device.apply(&record) {
         Ok(Some(count)) if is_count(&record) => Some(Some(said(count))),
         Ok(reading) => Some(reading),
         Err(_) => None,

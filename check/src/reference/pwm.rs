@@ -75,8 +75,9 @@ impl Pwm {
         self.remainder = 0;
     }
 
-    /// `count` ticks at once. A wait of any length costs the same.
-    pub fn ticks(&mut self, count: u32) {
+    /// `count` ticks at once. A wait of any length costs the same. Above MAX the counter runs on to 65,535,
+    /// or goes to 0.
+    pub fn ticks(&mut self, count: u32, runs_on: bool) {
         if self.cs == 0 {
             return;
         }
@@ -85,17 +86,17 @@ impl Pwm {
         let total = u64::from(self.remainder) + u64::from(count);
         self.remainder = (total & ((1 << power) - 1)) as u8;
         // With N 1 there is no remainder, so that the steps fit in 32 bits.
-        self.steps((total >> power) as u32);
+        self.steps((total >> power) as u32, runs_on);
     }
 
-    /// The same as [`Pwm::ticks`], one tick after another as paper 01 says it.
-    pub fn ticks_one_by_one(&mut self, count: u32) {
+    /// The same as [`Pwm::ticks`], one tick after another as the papers say it.
+    pub fn ticks_one_by_one(&mut self, count: u32, runs_on: bool) {
         for _ in 0..count {
-            self.tick();
+            self.tick(runs_on);
         }
     }
 
-    pub fn tick(&mut self) {
+    pub fn tick(&mut self, runs_on: bool) {
         let n = match divider(self.cs.into()) {
             Some(n) => n,
             None => return,
@@ -103,15 +104,17 @@ impl Pwm {
         self.remainder += 1;
         if u64::from(self.remainder) == n {
             self.remainder = 0;
-            self.step();
+            self.step(runs_on);
         }
     }
 
-    fn step(&mut self) {
-        self.counter = if self.counter >= self.top() {
+    fn step(&mut self, runs_on: bool) {
+        let above = self.counter > self.top();
+        self.counter = if self.counter == self.top() || above && !runs_on {
             0
         } else {
-            self.counter + 1
+            // 65,535 is the last that it can run on to.
+            self.counter.wrapping_add(1)
         };
         if !self.generates() {
             return;
@@ -124,7 +127,7 @@ impl Pwm {
         }
     }
 
-    fn steps(&mut self, count: u32) {
+    fn steps(&mut self, count: u32, runs_on: bool) {
         if !self.generates() {
             // 65,535 is the top: the counter goes round by itself.
             self.counter = self.counter.wrapping_add(count as u16);
@@ -132,7 +135,15 @@ impl Pwm {
         }
         let (start, top) = (u32::from(self.counter), u32::from(self.max));
         let cmp = u32::from(self.cmp);
-        let until_zero = top.saturating_sub(start) + 1;
+        // The last count before 0.
+        let last = if start <= top {
+            top
+        } else if runs_on {
+            COUNTER_MAX.into()
+        } else {
+            start
+        };
+        let until_zero = last - start + 1;
         if count < until_zero {
             let end = start + count;
             self.counter = end as u16;

@@ -10,7 +10,7 @@ pub const LOG_TOO_LONG: Refusal = 1;
 pub const LOG_TOO_SHORT: Refusal = 2;
 /// The mark is not 51 4D.
 pub const MARK_WRONG: Refusal = 3;
-/// The edition is not 1.
+/// There is no such edition.
 pub const EDITION_UNKNOWN: Refusal = 4;
 /// The distance is no multiple of 16, or reaches back beyond the first byte.
 pub const DISTANCE_WRONG: Refusal = 5;
@@ -38,6 +38,9 @@ pub const REGISTERS_OUT_OF_RANGE: Refusal = 15;
 pub const STOP_AFTER_ACK: Refusal = 16;
 /// A transcript has another length than the readings.
 pub const TRANSCRIPT_LENGTH_WRONG: Refusal = 17;
+
+/// A text that is none of the dump's.
+pub const NO_DUMP: Refusal = 20;
 
 pub fn check(holds: bool, refusal: Refusal) -> Result<(), Refusal> {
     if holds {

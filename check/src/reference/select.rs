@@ -53,13 +53,14 @@ impl Select {
         places(self.encoder_pairs() & !before.encoder_pairs()).map(|place| place / 4)
     }
 
-    /// Whether each PWM channel is routed, in order.
+    /// Whether each PWM channel is routed, in order, up to the last that is.
     pub fn pwms(self) -> impl Iterator<Item = bool> {
         let mut pins = self.low() & !self.high();
         iter::from_fn(move || {
             let routed = pins & 1 != 0;
+            let any = pins != 0;
             pins >>= 2;
-            Some(routed)
+            any.then_some(routed)
         })
     }
 

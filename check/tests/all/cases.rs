@@ -3,9 +3,9 @@
 use rivandoze_check::cases::{Family, Size, FAMILIES};
 use rivandoze_check::exchange::{Answer, Call, Request, HEADER_LEN, PLACES};
 use rivandoze_check::packed;
-use rivandoze_check::reference::log::{records, RECORDS_MAX};
+use rivandoze_check::reference::log::{records, Log, RECORDS_MAX};
 use rivandoze_check::reference::record::{Fields, TICKS, TICKS_MAX};
-use rivandoze_check::reference::Bank;
+use rivandoze_check::reference::{Device, EDITIONS};
 use std::collections::BTreeSet;
 
 fn short() -> impl Iterator<Item = Request> {
@@ -48,6 +48,26 @@ fn every_refusal_and_every_place_comes_up() {
     }
 }
 
+/// As many of each edition, and each is refused and not refused.
+#[test]
+fn logs_of_every_edition_are_made() {
+    for edition in EDITIONS {
+        let made = || {
+            let made = FAMILIES[0].requests(5, Size::Short);
+            made.filter(move |request| {
+                Log::open(&request.log).map(|log| log.edition) == Ok(edition)
+            })
+        };
+        let all = made().count();
+        assert!(all > 3_600 / EDITIONS.len(), "{edition:?}: {all}");
+        let refused = made().filter(|request| word(request) & 0xFF >= 7).count();
+        assert!(
+            (all / 6..all / 3).contains(&refused),
+            "{edition:?}: {refused} of {all}"
+        );
+    }
+}
+
 #[test]
 fn full_logs_are_among_the_made_ones() {
     let made = FAMILIES[0].requests(5, Size::Short);
@@ -55,15 +75,22 @@ fn full_logs_are_among_the_made_ones() {
     assert!(full.count() > 60);
 }
 
-/// At the end of many a log every register is read: SELECT, 3 of 10 encoders, 6 of 20 PWMs, 3 of I2C.
+/// At the end of many a log every register is read: SELECT, 3 of 10 encoders, 6 of 20 PWMs, 3 of I2C or 4,
+/// of each bank.
 #[test]
 fn end_states_are_read_whole() {
     let (mut whole, mut whole_and_full) = (0, 0);
     for request in FAMILIES[0].requests(5, Size::Short) {
-        let all: Vec<_> = records(&request.log).expect("a made log").collect();
-        let end = &all[all.len().saturating_sub(154)..];
+        let log = Log::open(&request.log).expect("a made log");
+        let all: Vec<_> = log.records().collect();
+        let registers = if log.edition.rules().bank_b {
+            2 * 155
+        } else {
+            154
+        };
+        let end = &all[all.len().saturating_sub(registers)..];
         let read: BTreeSet<_> = end.iter().filter(|record| record[0] == 2).collect();
-        if read.len() == 154 {
+        if read.len() == registers {
             whole += 1;
             whole_and_full += usize::from(all.len() == RECORDS_MAX);
         }
@@ -74,20 +101,47 @@ fn end_states_are_read_whole() {
     );
 }
 
-/// Behind ten records that are applied stands one with a bit turned over: each bit of 26 records.
+fn family(name: &str) -> &'static Family {
+    let found = FAMILIES.iter().find(|family| family.name == name);
+    found.expect(name)
+}
+
+/// Behind ten records for each bank, which are applied, stands one with a bit turned over: each bit of 26
+/// records for one bank of edition 1, and of 28 for two of edition 2.
 #[test]
 fn every_bit_of_a_record_is_turned() {
-    let name = "every bit of a record";
-    let family = FAMILIES.iter().find(|family| family.name == name);
+    let bits = family("every bit of a record");
     let (mut logs, mut refusals) = (0, BTreeSet::new());
-    for request in family.expect(name).requests(1, Size::Short) {
+    for request in bits.requests(1, Size::Full) {
         let word = packed::replay(&request.log, &mut [0; RECORDS_MAX * 8]);
         assert!(word >> 8 >= 10, "{word:#x}");
         logs += 1;
         refusals.insert(word & 0xFF);
     }
-    assert_eq!(logs, 26 * 128);
+    assert_eq!(logs, (26 + 2 * 28) * 128);
     assert_eq!(refusals, BTreeSet::from([0, 7, 8, 9, 10]));
+    let short = bits.requests(1, Size::Short).count();
+    assert!((3_000..3_700).contains(&short), "{short}");
+}
+
+/// With each of these records every byte that might be its bank, and no other fault.
+#[test]
+fn every_byte_for_the_bank_is_tried() {
+    let bytes = family("every byte for the bank");
+    let mut answers = BTreeSet::new();
+    for request in bytes.requests(1, Size::Full) {
+        let log = Log::open(&request.log).expect("a made log");
+        let at = 10 * if log.edition.rules().bank_b { 2 } else { 1 };
+        let record = log.records().nth(at).expect("the record behind those");
+        let word = packed::replay(&request.log, &mut [0; RECORDS_MAX * 8]);
+        let refused_there = word == (at as u64) << 8 | 7;
+        assert!(refused_there || word & 0xFF == 0);
+        answers.insert((log.edition, record[0], record[4], refused_there));
+    }
+    // Four kinds, or five; of these ticks have no bank 1. Nothing is answered in two ways.
+    assert_eq!(answers.len(), (4 + 5) * 256);
+    let applied = answers.iter().filter(|(.., refused)| !refused).count();
+    assert_eq!(applied, 4 + (4 * 2 + 1));
 }
 
 #[test]
@@ -109,23 +163,36 @@ fn outputs_are_enough_to_the_byte_or_one_byte_short() {
 fn waits_of_every_length_come_up() {
     let (mut met, mut longest) = (BTreeSet::new(), 0);
     for request in short() {
-        let mut bank = Bank::default();
-        for bytes in records(&request.log).into_iter().flatten() {
+        let log = match Log::open(&request.log) {
+            Ok(log) => log,
+            Err(_) => continue,
+        };
+        let mut device = Device::fresh(log.edition);
+        for bytes in log.records() {
             let record = Fields::from_bytes(bytes);
-            if bank.apply(&record).is_err() {
+            if device.apply(&record).is_err() {
                 break;
             }
             if record.kind == TICKS {
-                let routed = bank.pwms.iter().zip(bank.select.pwms());
-                let running = routed.filter(|&(_, routed)| routed).map(|(pwm, _)| pwm.cs);
-                met.extend(running.map(|cs| (cs, u64::BITS - record.value.leading_zeros())));
+                let bits = u64::BITS - record.value.leading_zeros();
+                for (at, bank) in device.banks.iter().enumerate() {
+                    let routed = bank.pwms.iter().zip(bank.select.pwms());
+                    let running = routed.filter(|&(_, routed)| routed);
+                    met.extend(running.map(|(pwm, _)| (at, pwm.cs, bits)));
+                }
                 longest = longest.max(record.value);
             }
         }
     }
-    for cs in 0..=7 {
+    for (bank, cs) in [0, 1]
+        .into_iter()
+        .flat_map(|bank| (0..=7).map(move |cs| (bank, cs)))
+    {
         for bits in 0..=32 {
-            assert!(met.contains(&(cs, bits)), "CS {cs}, {bits} bits");
+            assert!(
+                met.contains(&(bank, cs, bits)),
+                "bank {bank}, CS {cs}, {bits} bits"
+            );
         }
     }
     assert_eq!(longest, TICKS_MAX);

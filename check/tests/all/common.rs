@@ -11,6 +11,7 @@ pub struct Run {
     pub applied: u64,
     pub readings: Vec<u64>,
     pub bank: Bank,
+    pub bank_b: Bank,
 }
 
 /// Replays with output to spare, and looks that nothing is written behind the readings.
@@ -20,18 +21,25 @@ pub fn run(log: &[u8]) -> Run {
     let mut again = vec![UNTOUCHED; out.len()];
     assert_eq!(replay(log, &mut again), outcome.answer);
     assert_eq!(again, out);
+    let [bank, bank_b] = outcome.banks;
     let (written, rest) = out.split_at(outcome.readings * READING_LEN);
     assert!(rest.iter().all(|&byte| byte == UNTOUCHED));
     Run {
         refusal: outcome.answer.refusal,
         applied: outcome.answer.applied,
         readings: each_reading(written).collect(),
-        bank: outcome.bank,
+        bank,
+        bank_b,
     }
 }
 
 pub fn log(text: &str) -> Vec<u8> {
     from_text(text).unwrap_or_else(|(line, message)| panic!("line {line}: {message}"))
+}
+
+/// The text of a log of another edition than 1.
+pub fn in_edition(number: u16, text: &str) -> String {
+    format!("{text}\ntrailer edition {number}\n")
 }
 
 pub fn run_text(text: &str) -> Run {

@@ -7,9 +7,10 @@ use rivandoze_check::generate::{
 };
 use rivandoze_check::reference::encoder::{DIR, EN, ERR, MODE, UOERR, UOVR};
 use rivandoze_check::reference::i2c;
-use rivandoze_check::reference::log::{records, LOG_MAX};
-use rivandoze_check::reference::record::{Fields, I2C, SELECT, TICKS, WRITE};
-use rivandoze_check::reference::Bank;
+use rivandoze_check::reference::log::{records, Log, LOG_MAX};
+use rivandoze_check::reference::pwm::Pwm;
+use rivandoze_check::reference::record::{Fields, ANSWER, I2C, SELECT, TICKS, WRITE};
+use rivandoze_check::reference::{Bank, Device, Edition, EDITIONS};
 use std::collections::BTreeSet;
 
 fn settings(refused_percent: u64) -> Settings {
@@ -17,6 +18,25 @@ fn settings(refused_percent: u64) -> Settings {
         refused_percent,
         ..Settings::default()
     }
+}
+
+#[test]
+fn a_log_has_the_edition_that_is_asked_for() {
+    let made = |edition, seed| {
+        let log = generate(
+            seed,
+            &Settings {
+                edition,
+                ..settings(0)
+            },
+        );
+        Log::open(&log).expect("a made log").edition
+    };
+    for edition in EDITIONS {
+        assert!((0..50).all(|seed| made(Some(edition), seed) == edition));
+    }
+    let any: BTreeSet<Edition> = (0..50).map(|seed| made(None, seed)).collect();
+    assert_eq!(any, BTreeSet::from(EDITIONS));
 }
 
 #[test]
@@ -114,6 +134,8 @@ fn waits_keep_to_their_longest() {
 /// What was met on the way through some logs.
 #[derive(Default)]
 struct Met {
+    editions: BTreeSet<Edition>,
+    neighbours_in_both: usize,
     stat: u8,
     stat_in_mode_1: u8,
     counts: BTreeSet<i32>,
@@ -121,16 +143,48 @@ struct Met {
     pwm_cnfg: BTreeSet<u8>,
     /// State, what is recalled, R/S and code.
     i2c: BTreeSet<(u8, bool, u8, u8)>,
+    /// The answer, if it was told, R/S and code, and what failed.
+    answers: BTreeSet<(Option<u8>, u8, u8, u8)>,
+    answers_replaced: usize,
     reads: BTreeSet<(u8, u8, u8)>,
     counter_above_top: bool,
+    runs: BTreeSet<Run>,
     wrapped_at_max: BTreeSet<u16>,
     cmp_edges: BTreeSet<&'static str>,
     pins_seen_again: bool,
     spi: bool,
 }
 
+/// How a wait goes on from a counter above MAX that runs on: where it ends, and whether it passes CMP above
+/// MAX.
+#[derive(Debug, Clone, Copy, PartialEq, Eq, PartialOrd, Ord)]
+enum Run {
+    Above { passes_cmp: bool },
+    AtLast { passes_cmp: bool },
+    AtZero,
+    InTheFirstRound,
+    LaterOn,
+}
+
+/// The way of a wait, if the counter was above MAX and has moved.
+fn run_on(old: &Pwm, new: &Pwm, ticks: u64) -> Option<Run> {
+    if old.cnfg & 4 == 0 || old.counter <= old.max || old.counter == new.counter {
+        return None;
+    }
+    let steps = (u64::from(old.remainder) + ticks) >> (old.cs - 1);
+    let to_zero = 65_536 - u64::from(old.counter);
+    let passes_cmp = old.counter < old.cmp && old.cmp <= new.counter;
+    Some(match steps.checked_sub(to_zero) {
+        None if new.counter == u16::MAX => Run::AtLast { passes_cmp },
+        None => Run::Above { passes_cmp },
+        Some(0) => Run::AtZero,
+        Some(left) if left <= old.max.into() => Run::InTheFirstRound,
+        Some(_) => Run::LaterOn,
+    })
+}
+
 impl Met {
-    fn record(&mut self, before: &Bank, fields: Fields, after: &Bank) {
+    fn record(&mut self, runs_on: bool, before: &Bank, fields: Fields, after: &Bank) {
         if fields.kind == 2 {
             self.reads
                 .insert((fields.block, fields.channel, fields.register));
@@ -144,6 +198,9 @@ impl Met {
         }
         for (old, new) in before.pwms.iter().zip(&after.pwms) {
             self.pwm_cnfg.insert(new.cnfg);
+            if runs_on && fields.kind == TICKS {
+                self.runs.extend(run_on(old, new, fields.value));
+            }
             if new.cnfg & 4 == 0 {
                 continue;
             }
@@ -165,9 +222,14 @@ impl Met {
         let written = (fields.kind == WRITE).then(|| fields.place());
         if written == Some((I2C, 0, i2c::GO)) {
             let i2c = &before.i2c;
+            let (receive, cntl) = (i2c.addr & 1, i2c.cntl);
             self.i2c
-                .insert((i2c.state as u8, i2c.acknowledged, i2c.addr & 1, i2c.cntl));
+                .insert((i2c.state as u8, i2c.acknowledged, receive, cntl));
+            let failed = after.i2c.failure as u8;
+            self.answers.insert((i2c.answer, receive, cntl, failed));
         }
+        let replaces = fields.kind == ANSWER && before.i2c.answer.is_some();
+        self.answers_replaced += usize::from(replaces);
         if written == Some((SELECT, 0, 0)) {
             let pairs = before.encoders.iter().zip(&after.encoders);
             self.pins_seen_again |= pairs
@@ -178,16 +240,27 @@ impl Met {
     }
 }
 
-fn met(seeds: u64) -> Met {
+/// What was met in a bank, by logs of the editions that have it.
+fn met(seeds: u64, bank: u8) -> Met {
     let mut met = Met::default();
     for seed in 0..seeds {
         let log = generate(seed, &settings(0));
-        let mut bank = Bank::default();
-        for bytes in records(&log).expect("a made log has a good trailer") {
+        let log = Log::open(&log).expect("a made log has a good trailer");
+        let mut device = Device::fresh(log.edition);
+        let mut last = 0;
+        if bank == 0 || device.rules.bank_b {
+            met.editions.insert(log.edition);
+        }
+        for bytes in log.records() {
             let fields = Fields::from_bytes(bytes);
-            let before = bank.clone();
-            bank.apply(&fields).expect("a log without a fault");
-            met.record(&before, fields, &bank);
+            let before = device.banks[usize::from(bank)].clone();
+            device.apply(&fields).expect("a log without a fault");
+            met.neighbours_in_both += usize::from(fields.bank != last);
+            last = fields.bank;
+            if fields.bank == bank || fields.kind == TICKS {
+                let after = &device.banks[usize::from(bank)];
+                met.record(device.rules.runs_on, &before, fields, after);
+            }
         }
     }
     met
@@ -195,7 +268,16 @@ fn met(seeds: u64) -> Met {
 
 #[test]
 fn deep_states_are_reached() {
-    let met = met(120);
+    let editions = EDITIONS.into_iter();
+    assert_reaches_deep(met(300, 0), editions.clone().collect());
+    let of_two_banks = editions.filter(|edition| edition.rules().bank_b);
+    let bank_b = met(500, 1);
+    assert!(bank_b.neighbours_in_both > 1_000);
+    assert_reaches_deep(bank_b, of_two_banks.collect());
+}
+
+fn assert_reaches_deep(met: Met, editions: BTreeSet<Edition>) {
+    assert_eq!(met.editions, editions);
     assert_eq!(met.stat, DIR | ERR | UOVR | UOERR);
     assert_eq!(met.stat_in_mode_1 & (UOVR | UOERR), UOVR | UOERR);
     for count in -20..20 {
@@ -205,8 +287,12 @@ fn deep_states_are_reached() {
     assert_eq!(met.pwm_cnfg.into_iter().collect::<Vec<u8>>(), [0, 1, 4, 5]);
     // All that is allowed after a byte that was not acknowledged, and in RX idle after one that was.
     assert_eq!(met.i2c.len(), 36 + 10);
-    assert_eq!(met.reads.len(), 1 + 10 * 3 + 20 * 6 + 3);
+    assert_eq!(met.reads.len(), 1 + 10 * 3 + 20 * 6 + 4);
+    // Each of the 18 that are allowed somewhere, without an answer and with each.
+    assert_eq!(met.answers.len(), 18 * 5);
+    assert!(met.answers_replaced > 20, "{}", met.answers_replaced);
     assert!(met.counter_above_top);
+    assert_eq!(met.runs.len(), 7, "{:?}", met.runs);
     assert!(met.wrapped_at_max.contains(&0) || met.wrapped_at_max.contains(&1));
     assert_eq!(met.cmp_edges.len(), 5);
     assert!(met.pins_seen_again);

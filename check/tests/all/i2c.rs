@@ -1,5 +1,5 @@
-use crate::common::{readings, run_text};
-use rivandoze_check::reference::i2c::{I2c, State, GO};
+use crate::common::{in_edition, readings, run_text};
+use rivandoze_check::reference::i2c::{Failure, I2c, State, GO};
 
 const STATES: [State; 3] = [State::Idle, State::TxIdle, State::RxIdle];
 
@@ -60,6 +60,7 @@ fn sequencer((state, receive, cntl): (State, u8, u8), acknowledged: bool) -> I2c
         cntl,
         state,
         acknowledged,
+        ..I2c::default()
     }
 }
 
@@ -236,4 +237,192 @@ fn tested_after_the_others() {
     );
     assert_eq!(refusal("write i2c cntl 6\nwrite i2c go 1\n"), 11);
     assert_eq!(refusal("write i2c cntl 4\nwrite i2c go 1\n"), 16);
+}
+
+// Slaves that do not answer.
+
+/// What fails, word for word from the paper: nothing, the address or the data.
+fn failing(receive: u8, cntl: u8, answer: Option<u8>) -> Failure {
+    let answer = answer.unwrap_or(0b11);
+    let (start, byte) = (cntl & 0b0010 != 0, cntl & 0b0001 != 0);
+    let address_fails = start && answer & 0b01 == 0;
+    let data_fails = byte && receive == 0 && answer & 0b10 == 0;
+    match (address_fails, data_fails) {
+        (true, _) => Failure::Address,
+        (false, true) => Failure::Data,
+        (false, false) => Failure::None,
+    }
+}
+
+const ANSWERS: [Option<u8>; 5] = [None, Some(0), Some(1), Some(2), Some(3)];
+
+#[test]
+fn each_combination_with_each_answer() {
+    for code in combinations() {
+        let (state, receive, cntl) = code;
+        for (answer, acknowledged) in ANSWERS.into_iter().flat_map(|a| [(a, false), (a, true)]) {
+            let before = I2c {
+                answer,
+                failure: Failure::Data,
+                ..sequencer(code, acknowledged)
+            };
+            let mut i2c = before.clone();
+            let end = match (i2c.write(GO, 1, true), row_end(state, receive, cntl)) {
+                (Ok(()), Some(end)) => end,
+                // A refused GO leaves all, also the answer.
+                (Err(_), _) => {
+                    assert_eq!(i2c, before);
+                    continue;
+                }
+                (Ok(()), None) => panic!("{before:?} is allowed"),
+            };
+            let failure = failing(receive, cntl, answer);
+            assert_eq!((i2c.answer, i2c.failure), (None, failure), "{before:?}");
+            if failure == Failure::Address {
+                assert_eq!((i2c.state, i2c.acknowledged), (State::Idle, false));
+            } else {
+                let received = end == State::RxIdle && cntl & 0b1000 != 0;
+                assert_eq!((i2c.state, i2c.acknowledged), (end, received));
+            }
+        }
+    }
+}
+
+/// Without an answer, and with one that acknowledges all, edition 2 is edition 1.
+#[test]
+fn all_is_acknowledged_unless_it_is_told() {
+    for code in combinations() {
+        let ends = [None, Some(3)].map(|answer| {
+            let mut i2c = I2c {
+                answer,
+                ..sequencer(code, false)
+            };
+            let given = i2c.write(GO, 1, true);
+            (given, i2c.state, i2c.acknowledged, i2c.failure)
+        });
+        assert_eq!(ends[0], ends[1]);
+        assert_eq!(ends[0].3, Failure::None);
+    }
+}
+
+const SEND: &str = "write i2c addr 0x40\nwrite i2c cntl 3\n";
+const GO_AND_LOOK: &str = "write i2c go 1\nread i2c state\nread i2c failure\n";
+
+fn answered(text: &str) -> Vec<u64> {
+    let text = format!("write select 0xF0000000\n{text}");
+    readings(&in_edition(2, &text))
+}
+
+#[test]
+fn each_failure_is_read() {
+    for (answer, state, failure) in [(3, 1, 0), (2, 0, 1), (1, 1, 2), (0, 0, 1)] {
+        let text = format!("read i2c failure\n{SEND}answer i2c {answer}\n{GO_AND_LOOK}");
+        assert_eq!(answered(&text), [0, state, failure], "answer {answer}");
+    }
+}
+
+#[test]
+fn an_answer_is_used_up_by_the_next_go() {
+    let send_on = "write i2c cntl 1\n";
+    let text = format!("answer i2c 1\n{SEND}{GO_AND_LOOK}{send_on}{GO_AND_LOOK}");
+    assert_eq!(answered(&text), [1, 2, 1, 0]);
+    // By STOP alone too, whose failure is none.
+    let stop = "write i2c cntl 4\n";
+    let text = format!("{SEND}{GO_AND_LOOK}answer i2c 0\n{stop}{GO_AND_LOOK}{SEND}{GO_AND_LOOK}");
+    assert_eq!(answered(&text), [1, 0, 0, 0, 1, 0]);
+}
+
+#[test]
+fn a_second_answer_replaces_the_first() {
+    for (first, last) in [(0, 3), (3, 0), (2, 1)] {
+        let text = format!("{SEND}answer i2c {first}\nanswer i2c {last}\n{GO_AND_LOOK}");
+        let alone = format!("{SEND}answer i2c {last}\n{GO_AND_LOOK}");
+        assert_eq!(answered(&text), answered(&alone));
+    }
+}
+
+#[test]
+fn an_answer_waits_for_its_go() {
+    let between = "write i2c addr 0x40
+        write i2c cntl 3
+        write select 0
+        ticks 100
+        read i2c failure
+        write select 0xF0000000\n";
+    let text = format!("answer i2c 2\n{between}{GO_AND_LOOK}");
+    assert_eq!(answered(&text), [0, 0, 1]);
+}
+
+/// The address with START alone, the data when sending alone.
+#[test]
+fn what_each_bit_is_about() {
+    let send_on = "write i2c cntl 1\nanswer i2c 2\n";
+    let text = format!("{SEND}{GO_AND_LOOK}{send_on}{GO_AND_LOOK}");
+    assert_eq!(answered(&text), [1, 0, 1, 0]);
+    let receive = "write i2c addr 0x41\nwrite i2c cntl 3\nanswer i2c 1\n";
+    assert_eq!(answered(&format!("{receive}{GO_AND_LOOK}")), [2, 0]);
+    let receive = "write i2c addr 0x41\nwrite i2c cntl 3\nanswer i2c 2\n";
+    assert_eq!(answered(&format!("{receive}{GO_AND_LOOK}")), [0, 1]);
+}
+
+/// A byte that is sent with STOP and not acknowledged ends idle all the same.
+#[test]
+fn data_that_fails_ends_as_its_code() {
+    let last = "write i2c addr 0x40\nwrite i2c cntl 7\nanswer i2c 1\n";
+    assert_eq!(answered(&format!("{last}{GO_AND_LOOK}")), [0, 2]);
+}
+
+#[test]
+fn each_bank_has_slaves_of_its_own() {
+    let text = "bank 1 write select 0xF0000000
+        bank 1 write i2c cntl 3
+        write i2c cntl 3
+        answer i2c 0
+        bank 1 write i2c go 1
+        bank 1 read i2c failure
+        bank 1 answer i2c 1
+        write i2c go 1
+        read i2c failure
+        bank 1 read i2c failure";
+    assert_eq!(answered(text), [0, 1, 0]);
+}
+
+/// In edition 1 there is neither kind 5 nor register 4.
+#[test]
+fn edition_1_knows_nothing_of_it() {
+    let refusal = |text: &str| run_text(&format!("write select 0xF0000000\n{text}")).refusal;
+    for answer in [0, 3, 4, u64::MAX] {
+        assert_eq!(refusal(&format!("answer i2c {answer}")), 7);
+    }
+    assert_eq!(refusal("read i2c failure"), 7);
+    assert_eq!(refusal("write i2c failure 0"), 7);
+}
+
+#[test]
+fn what_an_answer_is_refused_by() {
+    let refusal = |text: &str| run_text(&in_edition(2, text)).refusal;
+    let routed = |text: &str| refusal(&format!("write select 0xF0000000\n{text}"));
+    for answer in 0..4 {
+        assert_eq!(routed(&format!("answer i2c {answer}")), 0);
+        assert_eq!(refusal(&format!("answer i2c {answer}")), 9);
+        assert_eq!(routed(&format!("bank 1 answer i2c {answer}")), 9);
+        assert_eq!(routed(&format!("bank 2 answer i2c {answer}")), 7);
+    }
+    for bit in 2..64 {
+        assert_eq!(routed(&format!("answer i2c {}", 1u64 << bit)), 8);
+        assert_eq!(refusal(&format!("answer i2c {}", 1u64 << bit)), 8);
+    }
+    for byte in 1..=3 {
+        for value in 1..=u8::MAX {
+            // The block, which is 3, the channel and the register.
+            let mut bytes = [5, 3, 0, 0];
+            bytes[byte] ^= value;
+            let [kind, block, channel, register] = bytes;
+            let zeros = "00 ".repeat(12);
+            let raw = format!("raw {kind:02X} {block:02X} {channel:02X} {register:02X} {zeros}");
+            assert_eq!(routed(&raw), 7, "{raw}");
+        }
+    }
+    assert_eq!(routed("write i2c failure 0"), 7);
+    assert_eq!(refusal("read i2c failure"), 0);
 }

@@ -1,6 +1,6 @@
 //! The judge: every verdict, its index, and the order of its refusals.
 
-use crate::common::log;
+use crate::common::{in_edition, log};
 use rivandoze_check::cases::{Size, FAMILIES};
 use rivandoze_check::exchange::{Call, Request};
 use rivandoze_check::packed;
@@ -57,6 +57,26 @@ fn one_count_negated_and_one_not_is_different() {
     assert_eq!(judged(COUNTS, &second), Ok(Verdict::Different(3)));
     let first = [10, MINUS_1, 0, MINUS_1];
     assert_eq!(judged(COUNTS, &first), Ok(Verdict::Different(1)));
+}
+
+/// The counts of bank B are negated too.
+#[test]
+fn counts_of_both_banks_are_negated() {
+    let text = "write select 10
+        bank 1 write select 10
+        write encoder 0 cnfg 1
+        bank 1 write encoder 0 cnfg 1
+        pins encoder 0 0
+        bank 1 pins encoder 0 0
+        pins encoder 0 1
+        bank 1 pins encoder 0 1
+        bank 1 read encoder 0 cntr
+        read encoder 0 cntr";
+    let text = in_edition(2, text);
+    assert_eq!(judged(&text, &[1, 1]), Ok(Verdict::Same));
+    assert_eq!(judged(&text, &[MINUS_1, MINUS_1]), Ok(Verdict::Negated));
+    assert_eq!(judged(&text, &[1, MINUS_1]), Ok(Verdict::Different(1)));
+    assert_eq!(judged(&text, &[MINUS_1, 1]), Ok(Verdict::Different(0)));
 }
 
 /// The index is of the plain replay, also where the transcript was negated up to there.

@@ -1,5 +1,7 @@
+mod banks;
 mod cases;
 mod common;
+mod dump;
 mod encoder;
 mod errors_seen;
 mod finder;

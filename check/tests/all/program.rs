@@ -130,3 +130,18 @@ fn text_and_back() {
     let wrong = program(&["from-text"], b"ticks 1\nticks");
     assert!(String::from_utf8_lossy(&wrong.stderr).starts_with("line 2: "));
 }
+
+#[test]
+fn dump_and_the_way_back() {
+    let whole = log("write select 10\nticks 2\npins encoder 0 2");
+    let text = printed(&["dump"], &whole);
+    assert!(text.ends_with("\n#50\n0A\n1B\n"), "{text}");
+    let back = printed(&["dump-read"], text.as_bytes());
+    assert_eq!(back, "50 bank 0 encoder 0 pins 2\n");
+    assert_eq!(printed(&["dump-read"], b""), "refused 20\n");
+    let refused = program(&["dump"], &log("pins encoder 0 2"));
+    assert_eq!(
+        (refused.stdout, refused.stderr),
+        (vec![], b"refused 9\n".to_vec())
+    );
+}

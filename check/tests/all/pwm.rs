@@ -1,13 +1,21 @@
-use crate::common::{readings, run_text};
+use crate::common::{in_edition, readings, run_text};
 use rivandoze_check::generate::Rng;
 use rivandoze_check::reference::pwm::Pwm;
 use std::collections::BTreeSet;
 
+/// Above MAX the counter goes to 0, or runs on.
+const RULES: [bool; 2] = [false, true];
+
 fn assert_both_ways_equal(start: &Pwm, ticks: u32) {
-    let (mut at_once, mut one_by_one) = (start.clone(), start.clone());
-    at_once.ticks(ticks);
-    one_by_one.ticks_one_by_one(ticks);
-    assert_eq!(at_once, one_by_one, "{ticks} ticks from {start:?}");
+    for runs_on in RULES {
+        let (mut at_once, mut one_by_one) = (start.clone(), start.clone());
+        at_once.ticks(ticks, runs_on);
+        one_by_one.ticks_one_by_one(ticks, runs_on);
+        assert_eq!(
+            at_once, one_by_one,
+            "{ticks} ticks from {start:?}, runs on: {runs_on}"
+        );
+    }
 }
 
 #[test]
@@ -78,20 +86,23 @@ fn at_once_equals_one_by_one_on_long_waits() {
 /// round of 16 bits: the slow way goes from one of the waits to the next.
 #[test]
 fn at_once_equals_one_by_one_at_the_edges() {
-    for start in starts_at_the_edges() {
+    for (start, runs_on) in
+        starts_at_the_edges().flat_map(|start| RULES.map(|rule| (start.clone(), rule)))
+    {
         let n = 1 << (start.cs - 1);
         let round = u32::from(start.max) + 1;
         let wholes = [1, 2, 3, 50].map(|rounds| n * rounds * round);
-        let others = [n, n * u32::from(start.cmp), 65_536, 100_000];
+        let to_zero = 65_536 - u32::from(start.counter);
+        let others = [n, n * u32::from(start.cmp), n * to_zero, 65_536, 100_000];
         let around = |ticks: u32| [ticks.saturating_sub(1), ticks, ticks + 1];
         let waits = wholes.into_iter().chain(others).flat_map(around);
         let waits: BTreeSet<u32> = waits.filter(|&ticks| ticks <= 100_001).collect();
         let (mut one_by_one, mut waited) = (start.clone(), 0);
         for ticks in waits {
-            one_by_one.ticks_one_by_one(ticks - waited);
+            one_by_one.ticks_one_by_one(ticks - waited, runs_on);
             waited = ticks;
             let mut at_once = start.clone();
-            at_once.ticks(ticks);
+            at_once.ticks(ticks, runs_on);
             assert_eq!(at_once, one_by_one, "{ticks} ticks from {start:?}");
         }
     }
@@ -131,11 +142,13 @@ fn a_wait_may_be_cut_anywhere() {
         let start = random_start(&mut rng);
         let whole = rng.draw() as u32;
         let first = rng.below(u64::from(whole) + 1) as u32;
-        let (mut cut, mut uncut) = (start.clone(), start);
-        cut.ticks(first);
-        cut.ticks(whole - first);
-        uncut.ticks(whole);
-        assert_eq!(cut, uncut);
+        for runs_on in RULES {
+            let (mut cut, mut uncut) = (start.clone(), start.clone());
+            cut.ticks(first, runs_on);
+            cut.ticks(whole - first, runs_on);
+            uncut.ticks(whole, runs_on);
+            assert_eq!(cut, uncut);
+        }
     }
 }
 
@@ -159,7 +172,7 @@ fn levels(cnfg: u8, max: u16, cmp: u16, ticks: usize) -> Vec<u8> {
         ..Pwm::default()
     };
     let level_after_tick = |_| {
-        pwm.tick();
+        pwm.tick(false);
         pwm.output.into()
     };
     (0..ticks).map(level_after_tick).collect()
@@ -198,6 +211,110 @@ fn a_counter_above_the_top_goes_to_zero() {
         read pwm 0 cntr
         read pwm 0 level";
     assert_eq!(readings(text), [10, 0, 1]);
+}
+
+/// The same log of edition 2: on to 65,535, then to 0, and from there by MAX.
+#[test]
+fn a_counter_above_the_top_runs_on_in_edition_2() {
+    let text = "write select 1
+        write pwm 0 cnfg 4
+        write pwm 0 max 100
+        write pwm 0 cmp 50
+        write pwm 0 cs 1
+        ticks 10
+        write pwm 0 max 5
+        ticks 1
+        read pwm 0 cntr
+        ticks 65524
+        read pwm 0 cntr
+        read pwm 0 level
+        ticks 1
+        read pwm 0 cntr
+        read pwm 0 level
+        ticks 5
+        read pwm 0 cntr
+        ticks 1
+        read pwm 0 cntr";
+    assert_eq!(readings(&in_edition(2, text)), [11, 65_535, 0, 0, 1, 5, 0]);
+}
+
+#[test]
+fn a_counter_at_the_top_goes_to_zero_in_every_edition() {
+    let text = "write select 1
+        write pwm 0 cnfg 4
+        write pwm 0 max 100
+        write pwm 0 cs 1
+        ticks 10
+        write pwm 0 max 10
+        ticks 1
+        read pwm 0 cntr";
+    for number in [1, 2] {
+        assert_eq!(readings(&in_edition(number, text)), [0]);
+    }
+}
+
+/// CMP is met on the way, where the counter is above MAX, and at 65,535, the last of it.
+#[test]
+fn a_counter_that_runs_on_arrives_at_cmp() {
+    for (cmp, before, steps) in [(13, 2, 1), (65_535, 65_524, 1)] {
+        let text = format!(
+            "write select 1
+            write pwm 0 cnfg 5
+            write pwm 0 cmp 5000
+            write pwm 0 max 100
+            write pwm 0 cs 1
+            ticks 10
+            write pwm 0 max 3
+            write pwm 0 cmp {cmp}
+            ticks {before}
+            read pwm 0 level
+            ticks {steps}
+            read pwm 0 cntr
+            read pwm 0 level"
+        );
+        assert_eq!(readings(&in_edition(2, &text)), [0, cmp, 1], "CMP {cmp}");
+    }
+}
+
+/// Where nothing is above MAX, the two rules are one.
+#[test]
+fn the_rules_differ_above_max_alone() {
+    let mut rng = Rng::new(4);
+    for _ in 0..20_000 {
+        let start = random_start(&mut rng);
+        let ticks = rng.draw() as u32 >> rng.below(32);
+        let [to_zero, on] = RULES.map(|runs_on| {
+            let mut pwm = start.clone();
+            pwm.ticks(ticks, runs_on);
+            pwm
+        });
+        if start.cnfg & 4 == 0 || start.counter <= start.max {
+            assert_eq!(to_zero, on, "{ticks} ticks from {start:?}");
+        }
+    }
+}
+
+/// Above MAX in edition 2 is MODE 0's way to 65,535: as many steps, and MAX plays no part.
+#[test]
+fn above_max_it_is_the_way_of_mode_0() {
+    let mut rng = Rng::new(5);
+    for _ in 0..20_000 {
+        let start = random_start(&mut rng);
+        let ticks = rng.below(70_000) as u32;
+        let mut plain = Pwm {
+            cnfg: 0,
+            ..start.clone()
+        };
+        plain.ticks(ticks, true);
+        if start.counter > start.max && plain.counter >= start.counter && ticks < 65_536 {
+            let mut pwm = start.clone();
+            pwm.ticks(ticks, true);
+            assert_eq!(
+                (pwm.counter, pwm.remainder),
+                (plain.counter, plain.remainder)
+            );
+        }
+    }
 }
 
 #[test]

@@ -1,7 +1,7 @@
 //! Each refusal given, and not given one bit away. Where no single bit tells the two apart, one
 //! unit does, and the test says so.
 
-use crate::common::{bits_apart, log, run, run_text, UNTOUCHED};
+use crate::common::{bits_apart, in_edition, log, run, run_text, UNTOUCHED};
 use rivandoze_check::reference::{
     brute_pwm, brute_spi, find_pwm, find_spi, rate_pwm, rate_spi, replay,
 };
@@ -32,6 +32,7 @@ fn decides(refusal: u8, before: &str, bad: &str, good: &str) {
         "{good}"
     );
     assert_eq!(bad_run.bank, run_text(before).bank, "{bad}");
+    assert_eq!(bad_run.bank_b, run_text(before).bank_b, "{bad}");
 }
 
 /// Every one of these bits of the last record, flipped, makes an applied record refused so.
@@ -45,6 +46,9 @@ fn each_bit(refusal: u8, before: &str, good: &str, bits: impl Iterator<Item = us
         assert_eq!(run(&bad_log).refusal, refusal, "bit {bit} of {good}");
     }
 }
+
+/// The editions that there are.
+const EDITIONS: [u16; 2] = [1, 2];
 
 const KIND: usize = 0;
 const BLOCK: usize = 8;
@@ -89,13 +93,15 @@ fn refusal_3_by_each_bit_of_the_mark() {
 }
 
 #[test]
-fn refusal_4_by_each_bit_of_the_edition() {
-    let good = log(ROUTED);
-    for bit in 0..16 {
-        let mut bad = good.clone();
-        let start = bad.len() - 4;
-        bad[start + bit / 8] ^= 1 << (bit % 8);
-        assert_eq!(run(&bad).refusal, 4);
+fn refusal_4_by_every_number() {
+    for number in 0..=u16::MAX {
+        let wanted = if EDITIONS.contains(&number) { 0 } else { 4 };
+        let run = run(&log(&in_edition(number, "read select")));
+        assert_eq!(
+            (run.refusal, run.applied == 1),
+            (wanted, wanted == 0),
+            "{number}"
+        );
     }
 }
 
@@ -241,7 +247,7 @@ fn refusal_7_register() {
     one_bit(7, "", &read(3, 1), "read encoder 0 stat");
     one_bit(7, "", &read(6, 2), "read pwm 0 max");
     one_bit(7, "", &read(7, 2), "read pwm 0 level");
-    one_bit(7, "", &read(4, 3), "read i2c addr");
+    one_bit(7, "", "read i2c failure", "read i2c addr");
 }
 
 #[test]
@@ -558,8 +564,8 @@ fn the_length_comes_before_the_trailer() {
 fn mark_then_edition_then_distance_then_output_then_records() {
     let text = |trailer: &str| log(&format!("raw 02 {}\n{trailer}\n", "FF ".repeat(15)));
     let refusal = |trailer: &str| replay(&text(trailer), &mut []).refusal;
-    assert_eq!(refusal("trailer distance 1 edition 2 mark 51 4E"), 3);
-    assert_eq!(refusal("trailer distance 1 edition 2"), 4);
+    assert_eq!(refusal("trailer distance 1 edition 0 mark 51 4E"), 3);
+    assert_eq!(refusal("trailer distance 1 edition 0"), 4);
     assert_eq!(refusal("trailer distance 1"), 5);
     assert_eq!(refusal("trailer distance 32"), 5);
     assert_eq!(refusal("trailer distance 16"), 6);

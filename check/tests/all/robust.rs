@@ -2,7 +2,8 @@
 
 use crate::common::{run, UNTOUCHED};
 use rivandoze_check::generate::{damage, generate, splice, Rng, Settings};
-use rivandoze_check::reference::log::{build, records};
+use rivandoze_check::reference::edition::EDITIONS;
+use rivandoze_check::reference::log::{build, records, Log};
 use rivandoze_check::reference::record::RECORD_LEN;
 use rivandoze_check::reference::replay;
 
@@ -10,22 +11,23 @@ use rivandoze_check::reference::replay;
 fn assert_consistent(log: &[u8]) {
     let outcome = run(log);
     assert!(outcome.refusal <= 11 || outcome.refusal == 16);
-    match records(log) {
+    match Log::open(log) {
         Err(refusal) => {
             assert!((1..=5).contains(&refusal));
             assert_eq!((outcome.refusal, outcome.applied), (refusal, 0));
             assert!(outcome.readings.is_empty());
         }
-        Ok(all) => {
-            let all: Vec<[u8; RECORD_LEN]> = all.copied().collect();
+        Ok(log) => {
+            let all: Vec<[u8; RECORD_LEN]> = log.records().copied().collect();
             // The output is long enough here, so 6 does not come up.
             assert!(outcome.refusal == 0 || outcome.refusal >= 7);
             let applied = &all[..outcome.applied as usize];
             assert_eq!(applied.len() == all.len(), outcome.refusal == 0);
-            let alone = run(&build(&[], applied));
+            let alone = run(&build(log.edition, &[], applied));
             assert_eq!(alone.refusal, 0);
             assert_eq!(alone.readings, outcome.readings);
             assert_eq!(alone.bank, outcome.bank);
+            assert_eq!(alone.bank_b, outcome.bank_b);
         }
     }
 }
@@ -56,6 +58,7 @@ fn random_records() {
             .map(|_| {
                 let mut record = [0; 16];
                 record[..4].fill_with(|| rng.below(4) as u8);
+                record[4] = rng.below(2) as u8;
                 record[8] = rng.below(12) as u8;
                 if rng.chance(10) {
                     record[rng.below(16) as usize] = rng.draw() as u8;
@@ -63,7 +66,7 @@ fn random_records() {
                 record
             })
             .collect();
-        assert_consistent(&build(&[], &records));
+        assert_consistent(&build(rng.pick(&EDITIONS), &[], &records));
     }
 }
 

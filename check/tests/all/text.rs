@@ -1,5 +1,7 @@
 use crate::common::log;
 use rivandoze_check::generate::{damage, generate, Rng, Settings};
+use rivandoze_check::reference::edition::EDITIONS;
+use rivandoze_check::reference::log::build;
 use rivandoze_check::reference::record::Fields;
 use rivandoze_check::text::{from_text, to_text};
 
@@ -41,12 +43,12 @@ fn any_record_round_trips() {
     let mut rng = Rng::new(33);
     for _ in 0..5_000 {
         let mut record = [0; 16];
-        record[..4].fill_with(|| rng.below(6) as u8);
+        record[..5].fill_with(|| rng.below(6) as u8);
         record[8] = rng.draw() as u8;
         if rng.chance(50) {
             record[rng.below(16) as usize] = rng.draw() as u8;
         }
-        assert_round_trip(&rivandoze_check::reference::log::build(&[], &[record]));
+        assert_round_trip(&build(rng.pick(&EDITIONS), &[], &[record]));
     }
 }
 
@@ -70,6 +72,16 @@ fn each_line_means_its_record() {
         ("write i2c cntl 3", Fields::write(3, 0, 1, 3)),
         ("write i2c go 1", Fields::write(3, 0, 2, 1)),
         ("read i2c state", Fields::read(3, 0, 3)),
+        (
+            "bank 1 write select 0xA",
+            Fields::write(0, 0, 0, 10).in_bank(1),
+        ),
+        ("bank 1 read pwm 3 level", Fields::read(2, 3, 5).in_bank(1)),
+        ("bank 255 pins encoder 0 2", Fields::pins(0, 2).in_bank(255)),
+        ("bank 2 ticks 500", Fields::ticks(500).in_bank(2)),
+        ("answer i2c 2", Fields::answer(2)),
+        ("bank 1 answer i2c 9", Fields::answer(9).in_bank(1)),
+        ("read i2c failure", Fields::read(3, 0, 4)),
     ] {
         let bytes = log(line);
         assert_eq!(bytes[..16], fields.to_bytes(), "{line}");
@@ -80,8 +92,9 @@ fn each_line_means_its_record() {
 
 #[test]
 fn spelling_is_free_where_it_can_be() {
-    let plain = log("write pwm 3 max 255\nticks 16\n");
-    let free = log("\r\n# all of it\n  WRITE  PWM\t0x3 Max 0xfF # top\n\n ticks 0X10# wait\n");
+    let plain = log("bank 1 write pwm 3 max 255\nticks 16\n");
+    let free =
+        log("\r\n# all of it\n Bank 0x1 WRITE  PWM\t0x3 Max 0xfF # top\n\n ticks 0X10# wait\n");
     assert_eq!(plain, free);
 }
 
@@ -114,6 +127,20 @@ fn the_trailer_is_made_or_given() {
     );
     assert_eq!(end("ticks 1\ntrailer none"), [0; 0]);
     assert_eq!(log(""), [0, 0, 0, 0, 1, 0, 0x51, 0x4D]);
+}
+
+#[test]
+fn the_text_has_what_is_otherwise_in_the_trailer() {
+    for end in [
+        "",
+        "trailer edition 2\n",
+        "trailer mark 51 4C\n",
+        "trailer edition 3 mark 51 4C\n",
+        "trailer distance 15\n",
+    ] {
+        let text = format!("ticks 1\n{end}");
+        assert_eq!(to_text(&log(&text)), text);
+    }
 }
 
 #[test]
@@ -160,6 +187,14 @@ fn what_is_wrong_and_where() {
         ("ticks 1 2", 1, "`2` is one word too many"),
         ("read select 0", 1, "`0` is one word too many"),
         ("pins pwm 0 1", 1, "only an encoder has pins"),
+        ("answer pwm 1", 1, "only i2c has slaves"),
+        ("answer", 1, "the word i2c is missing"),
+        ("answer i2c", 1, "the value is missing"),
+        ("bank", 1, "the bank is missing"),
+        ("bank 256 ticks 1", 1, "the bank `256` is too large"),
+        ("bank 1", 1, "what is for the bank is missing"),
+        ("bank 1 raw 00", 1, "`raw` is none of write, read"),
+        ("bank 1 bank 1 ticks 1", 1, "`bank` is none of write, read"),
         ("raw 00 01", 1, "byte 3 of 16 is missing"),
         ("raw 00 1", 1, "`1` is not a byte"),
         ("raw +1", 1, "`+1` is not a byte"),

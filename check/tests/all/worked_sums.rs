@@ -1,6 +1,6 @@
 //! The sums to check by hand, each.
 
-use crate::common::{log, readings, run, run_text};
+use crate::common::{in_edition, log, readings, run, run_text};
 use rivandoze_check::reference::{
     brute_pwm, brute_spi, find_pwm, find_spi, rate_pwm, rate_spi, replay, Answer, Bank, Pair,
 };
@@ -128,6 +128,33 @@ fn five_ticks_by_two() {
         ticks 5";
     let pwm = &run_text(text).bank.pwms[0];
     assert_eq!((pwm.counter, pwm.remainder), (2, 1));
+}
+
+/// MAX 3 under a counter of 5: edition 1 is at 0 after one step; edition 2 after 65,531, and one round of 4
+/// later again.
+#[test]
+fn a_counter_above_max() {
+    let text = |ticks: u32| {
+        format!(
+            "write select 1
+            write pwm 0 cs 1
+            write pwm 0 cnfg 4
+            write pwm 0 max 9
+            ticks 5
+            write pwm 0 max 3
+            write pwm 0 cmp 2
+            ticks {ticks}
+            read pwm 0 cntr
+            read pwm 0 level"
+        )
+    };
+    let by = |edition, ticks| readings(&in_edition(edition, &text(ticks)));
+    assert_eq!(by(1, 1), [0, 1]);
+    assert_eq!(by(2, 1), [6, 0]);
+    assert_eq!(by(2, 65_530), [65_535, 0]);
+    assert_eq!(by(2, 65_531), [0, 1]);
+    assert_eq!(by(2, 65_533), [2, 0]);
+    assert_eq!(by(2, 65_535), [0, 1]);
 }
 
 #[test]

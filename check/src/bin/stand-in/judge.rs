@@ -3,10 +3,10 @@
 use crate::mistakes::Mistake::{self, *};
 use rivandoze_check::packed;
 use rivandoze_check::reference::judge::{is_count, negated};
-use rivandoze_check::reference::log::{each_reading, records, READING_LEN};
+use rivandoze_check::reference::log::{each_reading, Log, READING_LEN};
 use rivandoze_check::reference::record::{Fields, READ};
 use rivandoze_check::reference::refusal::{Refusal, TRANSCRIPT_LENGTH_WRONG};
-use rivandoze_check::reference::Bank;
+use rivandoze_check::reference::Device;
 
 pub fn judge(mistake: Option<Mistake>, log: &[u8], transcript: &[u8]) -> u64 {
     match mistake {
@@ -52,19 +52,20 @@ impl Wrong {
         if self.0 == JudgeLengthBeforeTrailer && transcript.len() % READING_LEN != 0 {
             return Err(refused(TRANSCRIPT_LENGTH_WRONG));
         }
-        let all = records(log).map_err(refused)?;
-        let reads = all.clone().filter(|bytes| bytes[0] == READ).count();
+        let log = Log::open(log).map_err(refused)?;
+        let reads = log.records().filter(|bytes| bytes[0] == READ).count();
         if self.0 == JudgeLengthBeforeRecords && transcript.len() != READING_LEN * reads {
             return Err(refused(TRANSCRIPT_LENGTH_WRONG));
         }
-        let (mut bank, mut readings) = (Bank::default(), Vec::new());
-        for (index, bytes) in (0..).zip(all) {
+        let (mut device, mut readings) = (Device::fresh(log.edition), Vec::new());
+        for (index, bytes) in (0..).zip(log.records()) {
             let record = Fields::from_bytes(bytes);
-            match bank.apply(&record) {
+            match device.apply(&record) {
                 Ok(None) => {}
                 Ok(Some(number)) => readings.push(Reading {
                     number,
-                    is_count: is_count(&record),
+                    is_count: is_count(&record)
+                        && (self.0 != JudgeNegatesBankAOnly || record.bank == 0),
                 }),
                 Err(_) if self.0 == JudgeUpToRefusedRecord => break,
                 Err(refusal) => return Err((refusal, index)),

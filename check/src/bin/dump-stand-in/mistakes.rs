@@ -1,0 +1,101 @@
+//! The mistakes, by name.
+
+macro_rules! mistakes {
+    ($($mistake:ident $name:literal)*) => {
+        #[derive(Debug, Clone, Copy, PartialEq, Eq)]
+        pub enum Mistake { $($mistake,)* }
+
+        pub const MISTAKES: &[(&str, Mistake)] = &[$(($name, Mistake::$mistake),)*];
+    };
+}
+
+mistakes! {
+    Nothing "none"
+    // What both calls do to memory, and their word.
+    ByteBehindOutput "byte-behind-output"
+    ByteBeforeOutput "byte-before-output"
+    InputChanged "input-changed"
+    RoomForOneMore "room-for-one-more"
+    RoomForOneLess "room-for-one-less"
+    WrittenOn6 "written-on-6"
+    NumberOn6 "number-on-6"
+    NumberOneLess "number-one-less"
+    BytesCounted "bytes-counted"
+    RestCleared "rest-cleared"
+    // The dump: its refusals.
+    UpToRefusedRecord "up-to-refused-record"
+    SixForReadings "6-for-readings"
+    SixBeforeRecords "6-before-records"
+    // Its header.
+    RecordOrder "wires-in-record-order"
+    BankBFirst "wires-of-bank-b-first"
+    EveryEncoder "wires-of-every-encoder"
+    RoutedEncoders "wires-of-routed-encoders"
+    ChangedTwiceOnly "wires-that-change-only"
+    OneBankOfCodes "one-bank-of-codes"
+    EncodersFromOne "encoders-from-one"
+    NoUnknown "no-unknown-lines"
+    UnknownAtTime0 "unknown-at-time-0"
+    // Its changes.
+    TicksNotTimes25 "ticks-not-times-25"
+    TicksTimes24 "ticks-times-24"
+    TimeOf32Bits "time-of-32-bits"
+    TicksOf32Bits "ticks-of-32-bits"
+    TimeWhereNothingFollows "time-where-nothing-follows"
+    TimeAtTheEnd "time-at-the-end"
+    TimeBeforeEveryRecord "time-before-every-record"
+    NoTime0 "no-time-0"
+    BBeforeA "b-before-a"
+    PinsSwapped "pins-swapped"
+    UnchangedPinWritten "unchanged-pin-written"
+    UnchangedPairWritten "unchanged-pair-written"
+    UnknownTakenFor0 "unknown-taken-for-0"
+    UnknownAfterRerouting "unknown-after-rerouting"
+    OnlyWhereEnabled "only-where-enabled"
+    OnePinsForBothBanks "one-pins-for-both-banks"
+    ThereAndBackLeftOut "there-and-back-left-out"
+    NoLastNewline "no-last-newline"
+    // The reader: its entries.
+    PinsBeforeLastChange "read-pins-before-last-change"
+    PinsBeforeTime "read-pins-before-the-time"
+    OrderOfChange "read-entries-in-order-of-change"
+    ByEncoderThenBank "read-entries-by-encoder-then-bank"
+    EntryForEachChange "read-entry-for-each-change"
+    NoEntryThereAndBack "read-no-entry-there-and-back"
+    EveryKnownEncoder "read-entries-of-every-known-encoder"
+    ReadPinsSwapped "read-pins-swapped"
+    TimeInTicks "read-time-in-ticks"
+    EntriesOf8 "read-entry-bytes-left"
+    // What it takes.
+    LeadingZeroTaken "read-leading-zero-taken"
+    EmptyNumberTaken "read-empty-number-taken"
+    AnyTimeTaken "read-any-time-taken"
+    SameTimeTaken "read-same-time-taken"
+    EarlierTimeTaken "read-earlier-time-taken"
+    TimeWraps "read-time-wraps"
+    TimeOf63Bits "read-time-of-63-bits"
+    TimeWithNothingTaken "read-time-with-nothing-taken"
+    LastTimeWithNothingTaken "read-last-time-with-nothing-taken"
+    NoTimeTaken "read-changes-without-a-time-taken"
+    NoNewlineTaken "read-no-last-newline-taken"
+    BlankLineTaken "read-blank-line-taken"
+    ReturnTaken "read-carriage-return-taken"
+    SameValueTaken "read-same-value-taken"
+    UndeclaredTaken "read-undeclared-wire-taken"
+    FirstBTaken "read-b-first-taken"
+    FirstAloneTaken "read-a-alone-taken"
+    BLaterTaken "read-b-later-taken"
+    UnknownAgainTaken "read-unknown-again-taken"
+    WiresInAnyOrder "read-wires-in-any-order"
+    WireTwiceTaken "read-wire-twice-taken"
+    HalfDeclaredTaken "read-half-declared-taken"
+    UnknownInAnyOrder "read-unknown-lines-in-any-order"
+    HalfUnknownTaken "read-half-unknown-taken"
+    UndeclaredUnknownTaken "read-undeclared-unknown-taken"
+    UnknownNeeded "read-unknown-lines-needed"
+    ChangeNeeded "read-change-needed"
+    LongerTaken "read-longer-taken"
+    LongestRefused "read-longest-refused"
+    SixBefore20 "read-6-before-20"
+    EmptyTaken "read-empty-taken"
+}
