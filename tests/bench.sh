@@ -9,18 +9,18 @@ work=$(mktemp -d)
 trap 'rm -rf "$work"' EXIT
 
 # A row, the most instructions that the second program may take, and the most that the library may.
-limits='pins of one encoder|100|74
-pins of ten encoders|100|74
-pins, changing bank|100|9999
-reads|70|52
-reads, changing bank|70|9999
-a mix, waits to 20 ticks|100|83
-a mix, waits of any length|100|84
-a mix over both banks|110|9999
-waits only, 20 PWM channels|950|845
-waits only, 40 PWM channels|1650|9999
-reads, judged|75|67
-a mix, waits to 20 ticks, judged|100|88
+limits='pins of one encoder|100|84
+pins of ten encoders|100|84
+pins, changing bank|100|84
+reads|70|60
+reads, changing bank|70|60
+a mix, waits to 20 ticks|100|92
+a mix, waits of any length|100|87
+a mix over both banks|110|99
+waits only, 20 PWM channels|950|912
+waits only, 40 PWM channels|1650|1590
+reads, judged|75|74
+a mix, waits to 20 ticks, judged|100|96
 the finder, a request|80|58'
 
 # The mix again: the most times as many instructions of the library when it is judged as when it is replayed.
