@@ -274,7 +274,8 @@ fn every_access() -> impl Iterator<Item = Fields> {
 }
 
 /// A record of each kind for each register, with every one of its bits turned over, in a short run in some
-/// edition and bank; then what shows what has become of the banks.
+/// edition and bank, but for the register's bits: an edition that lacks one is seen by one of these. Then what
+/// shows what has become of the banks.
 pub fn bits(mut rng: Rng, size: Size) -> Requests {
     let all =
         |edition| one_of_each(edition).flat_map(|fields| (0..128).map(move |bit| (fields, bit)));
@@ -287,7 +288,9 @@ pub fn bits(mut rng: Rng, size: Size) -> Requests {
         .iter()
         .sum();
     let mut sample = rng.clone();
-    let taken = turned.filter(move |_| !short || sample.below(parts) == 0);
+    let of_register = |bit| bit / 8 == 3;
+    let taken =
+        turned.filter(move |&(_, (_, bit))| !short || of_register(bit) || sample.below(parts) == 0);
     Box::new(taken.map(move |(edition, (fields, bit))| {
         let right = u128::from_le_bytes(fields.to_bytes());
         shown(edition, (right ^ 1 << bit).to_le_bytes(), &mut rng)

@@ -121,7 +121,7 @@ fn every_bit_of_a_record_is_turned() {
     assert_eq!(logs, (26 + 2 * 28) * 128);
     assert_eq!(refusals, BTreeSet::from([0, 7, 8, 9, 10]));
     let short = bits.requests(1, Size::Short).count();
-    assert!((3_000..3_700).contains(&short), "{short}");
+    assert!((3_600..4_200).contains(&short), "{short}");
 }
 
 /// With each of these records every byte that might be its bank, and no other fault.
