@@ -1,25 +1,30 @@
 -- What refuses a record, at the case that a match has found.
 -- Assumes nothing.
 use mathlib.Core.Path.{_≡_, refl, sym, _∙_}
-use mathlib.Core.Bool.{Bool, true, false, cond}
+use mathlib.Core.Bool.{Bool, true, false, cond, _&&_}
 use Prim.Native.Nat.{ℕ}
 use borrow.Author.Tests.{ne-eqb}
 use Rattle.laws.proofs.Cases.{taken, left, arm}
 use Rattle.wire.specs.declared.Record.{Record}
+use Rattle.edition.specs.declared.Edition.{Edition}
+use Rattle.encoder.specs.Encoder.{mode}
 use Rattle.i2c.specs.declared.I2c.{I2c}
 use Rattle.i2c.specs.I2c.{allowed, forbidden, code}
-use Rattle.bank.specs.How.{unrouted, goRefusal, i2cRefusal, refusalOf}
+use Rattle.bank.specs.How.{unrouted, cnfgRefusal, goRefusal, i2cRefusal, refusalOf}
 
-module _ (select : ℕ) (c : I2c) (x y : Record) (o : ℕ) (e : x ≡ y) where
-  pub refusal-arm : o ≡ refusalOf select c y → o ≡ refusalOf select c x
-  refusal-arm = arm (refusalOf select c) x y o e
+module _ (n : Edition) (select : ℕ) (c : I2c) (x y : Record) (o : ℕ) (e : x ≡ y) where
+  pub refusal-arm : o ≡ refusalOf n select c y → o ≡ refusalOf n select c x
+  refusal-arm = arm (refusalOf n select c) x y o e
 
   -- whether the channel is routed, as it was found
   module _ (b routed : Bool) (p : b ≡ routed) where
-    pub refusal-routed : refusalOf select c y ≡ unrouted routed → o ≡ unrouted b → o ≡ refusalOf select c x
+    pub refusal-routed : refusalOf n select c y ≡ unrouted routed → o ≡ unrouted b → o ≡ refusalOf n select c x
     refusal-routed d q = refusal-arm (rw (d, ← p) q)
 
-    pub refusal-i2c : (g : ℕ) → refusalOf select c y ≡ i2cRefusal routed g c → o ≡ i2cRefusal b g c → o ≡ refusalOf select c x
+    pub refusal-cnfg : (v : ℕ) → refusalOf n select c y ≡ cnfgRefusal (n .quadrature) routed v → o ≡ cnfgRefusal (n .quadrature) b v → o ≡ refusalOf n select c x
+    refusal-cnfg v d q = refusal-arm (rw (d, ← p) q)
+
+    pub refusal-i2c : (g : ℕ) → refusalOf n select c y ≡ i2cRefusal routed g c → o ≡ i2cRefusal b g c → o ≡ refusalOf n select c x
     refusal-i2c g d q = refusal-arm (rw (d, ← p) q)
 
 module _ (b : Bool) (c : I2c) (e : b ≡ allowed (c .phase) (code c)) where
@@ -32,6 +37,17 @@ module _ (b : Bool) (c : I2c) (e : b ≡ allowed (c .phase) (code c)) where
 
     pub go-barred : f ≡ true → 16 ≡ goRefusal c
     go-barred k = rw (← e, h, ← g, k)
+
+-- a write to CNFG
+module _ (quadrature routed : Bool) (v : ℕ) where
+  pub cnfg-barred : (quadrature && mode v) ≡ true → routed ≡ true → 18 ≡ cnfgRefusal quadrature routed v
+  cnfg-barred h r = rw (h, r)
+
+  pub cnfg-unrouted : (quadrature && mode v) ≡ true → routed ≡ false → 9 ≡ cnfgRefusal quadrature routed v
+  cnfg-unrouted h r = rw (h, r)
+
+  pub cnfg-passes : (n : ℕ) → (quadrature && mode v) ≡ false → n ≡ unrouted routed → n ≡ cnfgRefusal quadrature routed v
+  cnfg-passes n h e = rw h e
 
 -- a write to the I2C, by its register, where it is routed
 module _ (routed : Bool) (register : ℕ) (c : I2c) (r : routed ≡ true) where

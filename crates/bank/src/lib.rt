@@ -1,11 +1,12 @@
 // One bank: the four blocks, and what refuses a record.
+use edition::Edition;
 use encoder::Encoder;
 use i2c::I2c;
 use pwm::Pwm;
 use wire::Record;
 ghost use mathlib.Core.Path.{_≡_};
 ghost use Rattle.bank.specs.Bank.{fresh, reroute};
-ghost use Rattle.bank.specs.How.{unrouted, selectRefusal, goRefusal, i2cRefusal, refusalOf};
+ghost use Rattle.bank.specs.How.{unrouted, cnfgRefusal, selectRefusal, goRefusal, i2cRefusal, refusalOf};
 
 pub struct Bank {
     pub select: u64,
@@ -27,12 +28,24 @@ pub fn fresh() -> Bank
     }
 }
 
-// ---- what refuses a record: 9, 10, 11 or 16, or 0
+// ---- what refuses a record: 9, 10, 11, 16 or 18, or 0
 
 fn unrouted(routed: bool) -> u8
     ensures { λ r. ⌜ r ≡ unrouted routed ⌝ }
 {
     if routed { 0 } else { 9 }
+}
+
+fn cnfg_refusal(quadrature: bool, routed: bool, v: u64) -> u8
+    ensures { λ r. ⌜ r ≡ cnfgRefusal quadrature routed v ⌝ }
+{
+    if quadrature & ((v >> 2) % 2 == 1) {
+        if routed {
+            return 18;
+        }
+        return 9;
+    }
+    unrouted(routed)
 }
 
 fn select_refusal(v: u64) -> u8
@@ -68,14 +81,16 @@ fn i2c_refusal(routed: bool, register: u64, c: I2c) -> u8
     9
 }
 
-pub fn refusal(select: u64, c: I2c, r: Record) -> u8
-    ensures { λ n. ⌜ n ≡ refusalOf select c r ⌝ }
+pub fn refusal(edition: Edition, select: u64, c: I2c, r: Record) -> u8
+    ensures { λ n. ⌜ n ≡ refusalOf edition select c r ⌝ }
 {
     match r {
         Record::WriteSelect(v) => select_refusal(v),
-        Record::WriteEncoder { channel, value: _ } => {
-            unrouted(select::encoder_routed(select, channel))
-        }
+        Record::WriteEncoder { channel, value } => cnfg_refusal(
+            edition.quadrature,
+            select::encoder_routed(select, channel),
+            value,
+        ),
         Record::WritePwm {
             channel,
             register: _,

@@ -2,7 +2,6 @@
 use mathlib.Core.Path.{_≡_, refl, sym, ap, _∙_, subst}
 use mathlib.Core.Bool.{Bool, true, false, cond}
 use mathlib.Core.List.{List, [], _∷_, _++_}
-use mathlib.Core.Logic.{_⊎_, inl, inr}
 use Prim.Native.Nat.{ℕ, _+_, _^_, _≤_, _<_}
 use native.Mathlib.Omega.{arith}
 use lib.Dec.{ltb, leb}
@@ -25,10 +24,6 @@ use Rattle.dump.specs.Dump.{stepsOf, dumpText, replayed, answerOf, outputBy, du
 use Rattle.dump.proofs.Whole.{good-log, few-log}
 use Rattle.dump_print.specs.declared.Printed.{Printed}
 use Rattle.dump_print.specs.Printed.{printedBy, toError, DumpPrinted}
-
-some : (k : ℕ) → ((0 < k) × (k < 12)) ⊎ (k ≡ 16) → 0 < k
-some k (inl h) = h .0
-some k (inr e) = omega arith
 
 -- bytes in front of others
 fronts : (s rest : List ℕ) → Counts (length s) (s ++ rest)
@@ -78,7 +73,7 @@ module _ (log out : List ℕ) (room : 25207 ≤ length out) (d : Dumped) (mid : 
             bytes = rw (n, goes-mid c, c) (take-at (dumpText log) (drop (length (dumpText log)) out) (length (dumpText log)) refl);
             where-to = rw c;
           }
-      by (stopped k) c = absurd (omega (arith, z, ap (λ (x : Dumped). x .refused) (stops k c), some k (proved.refusals log 16_384 k c)))
+      by (stopped k) c = absurd (omega (arith, z, ap (λ (x : Dumped). x .refused) (stops k c), proved.refusal-some log 16_384 k c .0))
 
   module _ (nz : d .refused ≡ 0 → ⊥) where
     refuses : (replayed log .course ≡ stopped (d .refused)) × (d .index ≡ replayed log .applied)
@@ -92,11 +87,7 @@ module _ (log out : List ℕ) (room : 25207 ≤ length out) (d : Dumped) (mid : 
     long-mid = ap length (stops-mid (d .refused) (refuses .0))
 
     number-small : d .refused < 2 ^ 64
-    number-small = by (proved.refusals log 16_384 (d .refused) (refuses .0))
-      where
-        by : ((0 < d .refused) × (d .refused < 12)) ⊎ (d .refused ≡ 16) → d .refused < 2 ^ 64
-        by (inl h) = omega (arith, h .1)
-        by (inr e) = omega arith
+    number-small = omega (arith, proved.refusal-some log 16_384 (d .refused) (refuses .0) .1)
 
     index-small : d .index < 2 ^ 64
     unfolding stopOf

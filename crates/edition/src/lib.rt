@@ -9,6 +9,8 @@ pub struct Edition {
     pub banks: bool,
     // a record tells how a slave answers
     pub answers: bool,
+    // an encoder's step-and-direction mode is refused
+    pub quadrature: bool,
 }
 
 impl Edition {
@@ -19,6 +21,7 @@ impl Edition {
             runs: number > 1,
             banks: number > 1,
             answers: number > 1,
+            quadrature: number == 3,
         }
     }
 }

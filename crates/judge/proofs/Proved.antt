@@ -27,7 +27,8 @@ use Rattle.judge.proofs.Still.{still-only, still-same, negated-twice}
 
 not-six : Number 6 → ⊥
 not-six (inl h) = omega arith
-not-six (inr e) = omega arith
+not-six (inr (inl e)) = omega arith
+not-six (inr (inr e)) = omega arith
 
 never-six : (log : List ℕ) → courseOf log ≡ stopped 6 → ⊥
 unfolding replayOf replayFrom

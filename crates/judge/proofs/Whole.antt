@@ -3,7 +3,6 @@
 use mathlib.Core.Path.{_≡_, refl, sym, ap, _∙_}
 use mathlib.Core.List.{List, _++_}
 use mathlib.Core.Bool.{Bool, true, false, cond}
-use mathlib.Core.Logic.{_⊎_, inl, inr}
 use Prim.Native.Nat.{ℕ, _+_, _*_, _≤_, _<_}
 use native.Mathlib.Omega.{arith}
 use lib.ListN.{length, drop, length-append}
@@ -35,10 +34,6 @@ few log room x out out′ is wrote =
     let bytes = bytesOf (leBytes 8) vs in
     omega (arith, ap (λ (s : Stop). s .readings) is, length-bytes (leBytes 8) (λ v. refl) vs, ap length wrote, length-append bytes (drop (length bytes) out))
 
-some : (k : ℕ) → ((0 < k) × (k < 12)) ⊎ (k ≡ 16) → 0 < k
-some k (inl h) = h .0
-some k (inr e) = omega arith
-
 module _ (log : List ℕ) (room : ℕ) (enough : room ≡ 16_384) (x : Stop) (is : x ≡ stopOf (replayOf log room)) where
   number : x .refused ≡ numberOf (courseOf log)
   unfolding stopOf
@@ -55,7 +50,7 @@ module _ (log : List ℕ) (room : ℕ) (enough : room ≡ 16_384) (x : Stop) (is
     where
       by : (c : Course) → courseOf log ≡ c → c ≡ going
       by going c = refl
-      by (stopped k) c = absurd (let h = ap numberOf c in omega (arith, number, some k (replayed.refusals log 16_384 k c)))
+      by (stopped k) c = absurd (let h = ap numberOf c in omega (arith, number, replayed.refusal-some log 16_384 k c .0))
 
   stops : (x .refused ≡ 0 → ⊥) → courseOf log ≡ stopped (x .refused)
   stops d = by (courseOf log) refl

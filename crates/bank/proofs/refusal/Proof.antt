@@ -1,6 +1,6 @@
 use mathlib.Core.Path.{refl}
 use Rattle.bank.specs.How.{refusalOf}
-use Rattle.bank.proofs.Arms.{refusal-arm, refusal-routed, refusal-i2c}
+use Rattle.bank.proofs.Arms.{refusal-arm, refusal-routed, refusal-cnfg, refusal-i2c}
 use borrow.Author.Needs.{needs}
 use Rattle.bank.proofs.refusal.Statement.{statement}
 use Rattle.bank.proofs.refusal.Tie as tie
@@ -33,7 +33,7 @@ refusal-spec =
     (λ c κs. search needs)
     (λ c. search needs)
     (λ c. search refusal-arm)
-    (λ c. search (refusal-routed, refl))
+    (λ c. search (refusal-cnfg, refl))
     (λ c. search (refusal-routed, refl))
     (λ c. search (refusal-i2c, refl))
     (λ c. search (refusal-routed, refl))

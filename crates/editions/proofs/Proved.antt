@@ -1,0 +1,107 @@
+-- The facts of specs/Facts.antt.
+-- Assumes nothing.
+use mathlib.Core.Path.{_≡_, refl, sym, ap, _∙_}
+use mathlib.Core.Bool.{Bool, true, false, cond, _&&_, false≢true}
+use mathlib.Core.List.{List, []}
+use Prim.Native.Nat.{ℕ, _*_, _<_}
+use Rattle.fold.specs.Turn.{Turn, goes, lift, applies, leaves}
+use Rattle.fold.specs.Run.{Run, going, halted, step, resumed, runOf}
+use Rattle.fold.proofs.Laws as fold
+use lib.Dec.{eqb, leb}
+use borrow.Author.Tests.{eq-eqb, ne-eqb}
+use Rattle.edition.specs.Edition.{editionOf}
+use Rattle.wire.specs.Bytes.{byte, leOf, readsIn}
+use Rattle.wire.specs.declared.Record.{Record}
+use Rattle.wire.specs.Record.{bankOf, decodeOf, namedOf, writeOf}
+use Rattle.wire.specs.Trailer.{trailerOf, recordsOf}
+use Rattle.wire.specs.declared.Trailer.the-variants.{Found}
+use Rattle.wire.specs.declared.Record.the-variants.{Ticks}
+use Rattle.wire.specs.declared.Decoded.the-variants.{Names, Refused as NoRecord}
+use Rattle.wire.proofs.Known.{ticks-named}
+use Rattle.laws.specs.Each.{mapFrom}
+use Rattle.select.specs.Select.{fieldOf, some, encoderRouted}
+use Rattle.encoder.specs.Encoder.{en, rst, mode, statOf, countsInQuadrature}
+use Rattle.bank.specs.declared.Bank.{Bank}
+use Rattle.bank.specs.Bank.{encoderAt}
+use Rattle.bank.specs.Bank as bank
+use Rattle.banks.specs.declared.State.{State}
+use Rattle.banks.specs.State.{fresh, bankAt, withBank, bothBanks}
+use Rattle.banks.proofs.Whole.{Both, holds-first}
+use Rattle.replay.specs.Replay.{decodedTurn, turnOf, played, playOf, replayFrom, replayOf}
+use Rattle.replay.proofs.Replaying.{by-turn, ticking, banking, both-kept, lift-applies}
+use Rattle.editions.specs.Facts.{AsTwo, InQuadrature, ModeSums}
+use Rattle.editions.proofs.Three.{as-two, Moded, moded-first, moded-next}
+
+-- ---- edition 3 as edition 2
+
+module _ (s : State) (r : List ℕ) where
+  two-is : (x : Record) → decodeOf (editionOf 3) r ≡ Names x → turnOf (editionOf 2) s r ≡ decodedTurn (editionOf 2) s r (Names x)
+  unfolding turnOf decodeOf
+  two-is x e = ap (decodedTurn (editionOf 2) s r) e
+
+  two-ticks : (t : ℕ) → ticking (editionOf 2) s r (Ticks t) ≡ ticking (editionOf 3) s r (Ticks t)
+  unfolding bank.turnOf
+  two-ticks t = refl
+
+  same-turn : applies (turnOf (editionOf 3) s r) ≡ true → turnOf (editionOf 2) s r ≡ turnOf (editionOf 3) s r
+  same-turn =
+      by-turn (editionOf 3) s r (λ t. applies t ≡ true → turnOf (editionOf 2) s r ≡ t) (λ n e a. absurd (false≢true a)) both one
+    where
+      both : (x : Record) → decodeOf (editionOf 3) r ≡ Names x → byte r 0 ≡ 4 → applies (ticking (editionOf 3) s r x) ≡ true
+          → turnOf (editionOf 2) s r ≡ ticking (editionOf 3) s r x
+      both x e four a =
+          let is = ticks-named (editionOf 3) r x e four in
+          two-is x e
+          ∙ ap (λ (t : Bool). cond t (ticking (editionOf 2) s r x) (banking (editionOf 2) s r x)) (eq-eqb (byte r 0) 4 four)
+          ∙ ap (ticking (editionOf 2) s r) is ∙ two-ticks (leOf 8 r 8) ∙ ap (ticking (editionOf 3) s r) (sym is)
+
+      one : (x : Record) → decodeOf (editionOf 3) r ≡ Names x → (byte r 0 ≡ 4 → ⊥) → applies (banking (editionOf 3) s r x) ≡ true
+          → turnOf (editionOf 2) s r ≡ banking (editionOf 3) s r x
+      one x e other a =
+          let f = withBank (bankOf r) s in
+          let b = bankAt (bankOf r) s in
+          two-is x e
+          ∙ ap (λ (t : Bool). cond t (ticking (editionOf 2) s r x) (banking (editionOf 2) s r x)) (ne-eqb (byte r 0) 4 other)
+          ∙ ap (lift f) (as-two b x (sym (lift-applies f (bank.turnOf (editionOf 3) b x)) ∙ a))
+
+-- a replay by its trailer
+replay-is : (log : List ℕ) (a n o room : ℕ) → trailerOf log ≡ Found a n o → replayOf log room ≡ playOf (editionOf o) (recordsOf log) room
+unfolding replayOf replayFrom
+replay-is log a n o room e = rw e
+
+same-play : (rs : List (List ℕ)) (room : ℕ) → playOf (editionOf 3) rs room .course ≡ going → playOf (editionOf 2) rs room ≡ playOf (editionOf 3) rs room
+unfolding playOf
+same-play rs room = by (leb (8 * readsIn rs) room)
+  where
+    by : (t : Bool) → cond t (played (editionOf 3) rs) (halted fresh 0 [] 6) .course ≡ going
+        → cond t (played (editionOf 2) rs) (halted fresh 0 [] 6) ≡ cond t (played (editionOf 3) rs) (halted fresh 0 [] 6)
+    by true h = fold.alike (turnOf (editionOf 3)) (turnOf (editionOf 2)) same-turn fresh rs h
+    by false h = refl
+
+pub as-edition-two : AsTwo
+as-edition-two log other a b n room three two same through =
+    let is = replay-is log a n 3 room three in
+    replay-is other b n 2 room two
+    ∙ ap (λ (rs : List (List ℕ)). playOf (editionOf 2) rs room) same
+    ∙ same-play (recordsOf log) room (ap (λ (x : Run State ℕ). x .course) (sym is) ∙ through)
+    ∙ sym is
+
+-- ---- edition 3 in quadrature
+
+quadrature : (routed : Bool) (cnfg : ℕ) → mode cnfg ≡ false → en cnfg ≡ true → rst cnfg ≡ false → countsInQuadrature routed cnfg ≡ routed
+quadrature routed cnfg m e r = rw (e, r, m) (and-true routed)
+  where
+    and-true : (b : Bool) → (b && true) ≡ b
+    and-true true = refl
+    and-true false = refl
+
+pub in-quadrature : InQuadrature
+in-quadrature rs k i h e r =
+    let keep = both-kept Moded (editionOf 3) moded-next in
+    let all = fold.keeps (turnOf (editionOf 3)) (Both Moded) keep fresh rs (holds-first Moded moded-first) in
+    let b = bankAt k (played (editionOf 3) rs .state) in
+    quadrature (encoderRouted (b .select) i) (encoderAt i b .cnfg) (all .each k h i) e r
+
+pub mode-sums : ModeSums
+unfolding runOf resumed step turnOf bank.turnOf leOf decodeOf namedOf writeOf fieldOf some mapFrom statOf bank.fresh
+mode-sums = record { goes-in-two = refl; stops-in-three = refl; nine-first = refl }
