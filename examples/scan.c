@@ -32,7 +32,7 @@ static const char *const reasons[] = {
     "the log is longer than 32,768 bytes",
     "the log is shorter than its trailer of 8 bytes",
     "the trailer does not end in the mark 51 4D",
-    "the trailer's edition is neither 1 nor 2",
+    "the trailer's edition is none of 1 to 4",
     "the trailer's distance is no multiple of 16, or reaches back before the log",
     "the readings do not fit into the output",
     "it names no kind, block, channel, register or access that there is, or a byte that must be 0 is not",
@@ -45,6 +45,8 @@ static const char *const reasons[] = {
     "no pair is within the tolerance",
     "there is no such divider choice or X",
     "STOP would follow a received byte that was acknowledged",
+    "the transcript has another length than the readings",
+    "step-and-direction mode (MODE 1) is not allowed in edition 3",
 };
 
 /* Everything in a log is little-endian, as readings are. */

@@ -19,7 +19,7 @@ enum rvz_refusal {
     RVZ_LOG_TOO_LONG = 1,         /* The log is longer than 32,768 bytes. */
     RVZ_LOG_TOO_SHORT = 2,        /* The log is shorter than its 8-byte trailer. */
     RVZ_WRONG_MARK = 3,           /* The trailer does not end in the mark 51 4D. */
-    RVZ_WRONG_EDITION = 4,        /* The trailer's edition is neither 1 nor 2. */
+    RVZ_WRONG_EDITION = 4,        /* The trailer's edition is none of 1 to 4. */
     RVZ_WRONG_DISTANCE = 5,       /* The trailer's distance is no multiple of 16, or reaches back before the log. */
     RVZ_OUTPUT_TOO_SHORT = 6,     /* The output has no room: less than 8 bytes for each read, or for the whole dump or its entries. */
     RVZ_NO_SUCH_RECORD = 7,       /* The record names no kind, block, channel, register or access, or a byte that must be 0 is not. */
@@ -33,6 +33,7 @@ enum rvz_refusal {
     RVZ_NO_SUCH_PAIR = 15,        /* The divider choice is 0 or above 7, or X is above 65,535. */
     RVZ_STOP_AFTER_ACK = 16,      /* GO with STOP alone after a byte that was received and acknowledged. */
     RVZ_WRONG_TRANSCRIPT = 17,    /* The transcript has not 8 bytes for each reading of the log. */
+    RVZ_STEP_AND_DIRECTION = 18,  /* Edition 3: a write to an encoder's CNFG with MODE 1. */
     RVZ_NO_DUMP = 20              /* The text is no dump as rvz_dump writes them. */
 };
 
@@ -41,12 +42,16 @@ static inline unsigned rvz_refused(uint64_t answer) { return (unsigned)(answer &
 
 /* ---- Replay ---- */
 
-/* Replays the log of `log_len` bytes at `log`, by its edition. In edition 2 byte 4 of a record is its bank, 0 or 1 (ticks drive both), a PWM
- * counter above MAX runs on to 65,535, kind 5 tells how the I2C's slave answers the next GO, and register 4 of block 3 reads how the last
- * one failed: 0 not, 1 the address, 2 the data. In edition 1 there is one bank and none of this. Each read of the log writes its reading, 8 bytes, least byte first, into `out`, which has
- * room for `out_len` bytes, in log order; no other byte of `out` changes. The replay stops at the first refused record. Refusals 1 to 6
- * apply no record and write nothing; 7 to 11 and 16 keep what the records before the refused one did, whose index is
- * rvz_applied(answer).
+/* Replays the log of `log_len` bytes at `log`, by its edition:
+ *   1  one bank; a PWM counter above MAX goes to 0.
+ *   2  two banks: byte 4 of a record is its bank, 0 or 1 (ticks drive both). A PWM counter above MAX runs on to 65,535. Kind 5 tells how the
+ *      I2C's slave answers the next GO, and register 4 of block 3 reads how the last one failed: 0 not, 1 the address, 2 the data.
+ *   3  as 2, and a write to an encoder's CNFG with MODE 1 is refused by 18.
+ *   4  as 2, for a myRIO: byte 4 is the port, each with one encoder and three PWM channels; SELECT is a byte (bit 7 I2C, 6 reserved, 5 the
+ *      encoder, 4 to 2 PWM 2 to 0, 1 and 0 SPI), and 10 is never given.
+ * Each read of the log writes its reading, 8 bytes, least byte first, into `out`, which has room for `out_len` bytes, in log order; no other
+ * byte of `out` changes. The replay stops at the first refused record. Refusals 1 to 6 apply no record and write nothing; 7 to 11, 16 and
+ * 18 keep what the records before the refused one did, whose index is rvz_applied(answer).
  * 16,384 bytes of output are enough for every log. `log` and `out` may not overlap, and neither may be NULL, even at length 0. */
 uint64_t rvz_replay(const uint8_t *log, size_t log_len, uint8_t *out, size_t out_len);
 

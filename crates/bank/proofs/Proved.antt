@@ -21,14 +21,14 @@ gone true c d e = cc
 gone false c d e = let z : _≡_ {A = ℕ} 0 1 = cc in absurd (omega arith)
 
 pub only : Only
-only i j b c other = (on-encoder, on-pwm)
+only port i j b c other = (on-encoder, on-pwm)
   where
-    on-encoder : (f : Encoder → Encoder) → toEncoder i f b ≡ goes c → encoderAt j c ≡ encoderAt j b
+    on-encoder : (f : Encoder → Encoder) → toEncoder port i f b ≡ goes c → encoderAt j c ≡ encoderAt j b
     on-encoder f e =
-        ap (encoderAt j) (sym (gone (encoderRouted (b .select) i) c (withEncoder i b (f (encoderAt i b))) e))
+        ap (encoderAt j) (sym (gone (encoderRouted port (b .select) i) c (withEncoder i b (f (encoderAt i b))) e))
         ∙ getD-set-other (b .encoders) i j (f (encoderAt i b)) encoder.fresh other
 
-    on-pwm : (f : Pwm → Pwm) → toPwm i f b ≡ goes c → pwmAt j c ≡ pwmAt j b
+    on-pwm : (f : Pwm → Pwm) → toPwm port i f b ≡ goes c → pwmAt j c ≡ pwmAt j b
     on-pwm f e =
-        ap (pwmAt j) (sym (gone (pwmRouted (b .select) i) c (withPwm i b (f (pwmAt i b))) e))
+        ap (pwmAt j) (sym (gone (pwmRouted port (b .select) i) c (withPwm i b (f (pwmAt i b))) e))
         ∙ getD-set-other (b .pwms) i j (f (pwmAt i b)) pwm.fresh other

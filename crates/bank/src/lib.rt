@@ -48,10 +48,10 @@ fn cnfg_refusal(quadrature: bool, routed: bool, v: u64) -> u8
     unrouted(routed)
 }
 
-fn select_refusal(v: u64) -> u8
-    ensures { λ r. ⌜ r ≡ selectRefusal v ⌝ }
+fn select_refusal(port: bool, v: u64) -> u8
+    ensures { λ r. ⌜ r ≡ selectRefusal port v ⌝ }
 {
-    if select::allowed(v) { 0 } else { 10 }
+    if select::allowed(port, v) { 0 } else { 10 }
 }
 
 fn go_refusal(c: I2c) -> u8
@@ -85,21 +85,21 @@ pub fn refusal(edition: Edition, select: u64, c: I2c, r: Record) -> u8
     ensures { λ n. ⌜ n ≡ refusalOf edition select c r ⌝ }
 {
     match r {
-        Record::WriteSelect(v) => select_refusal(v),
+        Record::WriteSelect(v) => select_refusal(edition.port, v),
         Record::WriteEncoder { channel, value } => cnfg_refusal(
             edition.quadrature,
-            select::encoder_routed(select, channel),
+            select::encoder_routed(edition.port, select, channel),
             value,
         ),
         Record::WritePwm {
             channel,
             register: _,
             value: _,
-        } => unrouted(select::pwm_routed(select, channel)),
+        } => unrouted(select::pwm_routed(edition.port, select, channel)),
         Record::WriteI2c { register, value: _ } => {
-            i2c_refusal(select::i2c_routed(select), register, c)
+            i2c_refusal(select::i2c_routed(edition.port, select), register, c)
         }
-        Record::Answer(_) => unrouted(select::i2c_routed(select)),
+        Record::Answer(_) => unrouted(select::i2c_routed(edition.port, select)),
         Record::ReadSelect => 0,
         Record::ReadEncoder {
             channel: _,
@@ -110,17 +110,21 @@ pub fn refusal(edition: Edition, select: u64, c: I2c, r: Record) -> u8
             register: _,
         } => 0,
         Record::ReadI2c(_) => 0,
-        Record::Pins { channel, value: _ } => unrouted(select::encoder_routed(select, channel)),
+        Record::Pins { channel, value: _ } => unrouted(select::encoder_routed(
+            edition.port,
+            select,
+            channel,
+        )),
         Record::Ticks(_) => 0,
     }
 }
 
 // One encoder, where SELECT goes from old to new.
-pub fn reroute(old: u64, new: u64, i: usize, e: Encoder) -> Encoder
-    ensures { λ r. ⌜ r ≡ reroute old new i e ⌝ }
+pub fn reroute(port: bool, old: u64, new: u64, i: usize, e: Encoder) -> Encoder
+    ensures { λ r. ⌜ r ≡ reroute port old new i e ⌝ }
 {
     e.rerouted(
-        select::encoder_routed(old, i),
-        select::encoder_routed(new, i),
+        select::encoder_routed(port, old, i),
+        select::encoder_routed(port, new, i),
     )
 }

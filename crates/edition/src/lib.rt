@@ -11,6 +11,8 @@ pub struct Edition {
     pub answers: bool,
     // an encoder's step-and-direction mode is refused
     pub quadrature: bool,
+    // SELECT is a byte of a myRIO's expansion port
+    pub port: bool,
 }
 
 impl Edition {
@@ -22,6 +24,7 @@ impl Edition {
             banks: number > 1,
             answers: number > 1,
             quadrature: number == 3,
+            port: number == 4,
         }
     }
 }

@@ -1,2 +1,3 @@
 mod Three
+mod Four
 pub mod Proved

@@ -12,7 +12,7 @@ use borrow.Author.Tests.{eq-eqb, ne-eqb}
 use Rattle.edition.specs.Edition.{editionOf}
 use Rattle.wire.specs.Bytes.{byte, leOf, readsIn}
 use Rattle.wire.specs.declared.Record.{Record}
-use Rattle.wire.specs.Record.{bankOf, decodeOf, namedOf, writeOf}
+use Rattle.wire.specs.Record.{bankOf, decodeOf, namedOf, writeOf, pinsOf}
 use Rattle.wire.specs.Trailer.{trailerOf, recordsOf}
 use Rattle.wire.specs.declared.Trailer.the-variants.{Found}
 use Rattle.wire.specs.declared.Record.the-variants.{Ticks}
@@ -29,7 +29,8 @@ use Rattle.banks.specs.State.{fresh, bankAt, withBank, bothBanks}
 use Rattle.banks.proofs.Whole.{Both, holds-first}
 use Rattle.replay.specs.Replay.{decodedTurn, turnOf, played, playOf, replayFrom, replayOf}
 use Rattle.replay.proofs.Replaying.{by-turn, ticking, banking, both-kept, lift-applies}
-use Rattle.editions.specs.Facts.{AsTwo, InQuadrature, ModeSums}
+use Rattle.editions.specs.Facts.{AsTwo, InQuadrature, ModeSums, NeverTen, PortSums}
+use Rattle.editions.proofs.Four.{record-no-ten}
 use Rattle.editions.proofs.Three.{as-two, Moded, moded-first, moded-next}
 
 -- ---- edition 3 as edition 2
@@ -100,7 +101,26 @@ in-quadrature rs k i h e r =
     let keep = both-kept Moded (editionOf 3) moded-next in
     let all = fold.keeps (turnOf (editionOf 3)) (Both Moded) keep fresh rs (holds-first Moded moded-first) in
     let b = bankAt k (played (editionOf 3) rs .state) in
-    quadrature (encoderRouted (b .select) i) (encoderAt i b .cnfg) (all .each k h i) e r
+    quadrature (encoderRouted false (b .select) i) (encoderAt i b .cnfg) (all .each k h i) e r
+
+-- ---- edition 4
+
+pub never-ten : NeverTen
+never-ten rs h = fold.stopped-by (turnOf (editionOf 4)) (λ k. k ≡ 10 → ⊥) record-no-ten fresh rs 10 h refl
+
+-- ---- the sums
+
+pub port-sums : PortSums
+unfolding runOf resumed step turnOf bank.turnOf leOf decodeOf namedOf writeOf pinsOf fieldOf some mapFrom statOf bank.fresh
+port-sums = record {
+  encoder-routed = refl;
+  not-by-bit-4 = refl;
+  pwm-routed = refl;
+  i2c-routed = refl;
+  reserved = refl;
+  half-a-pair = refl;
+  taken = refl;
+}
 
 pub mode-sums : ModeSums
 unfolding runOf resumed step turnOf bank.turnOf leOf decodeOf namedOf writeOf fieldOf some mapFrom statOf bank.fresh

@@ -32,7 +32,7 @@ unmoded false t = refl
 pub as-two : (b : Bank) (r : Record) → applies (turnOf (editionOf 3) b r) ≡ true → turnOf (editionOf 2) b r ≡ turnOf (editionOf 3) b r
 unfolding turnOf
 as-two b (WriteSelect v) a = refl
-as-two b (WriteEncoder i v) a = unmoded (encoderRouted (b .select) i) _ ∙ unbarred (encoderRouted (b .select) i) (encoder.mode v) _ a
+as-two b (WriteEncoder i v) a = unmoded (encoderRouted false (b .select) i) _ ∙ unbarred (encoderRouted false (b .select) i) (encoder.mode v) _ a
 as-two b (Pins i v) a = refl
 as-two b (WritePwm i g v) a = refl
 as-two b (WriteI2c g v) a = refl
@@ -77,15 +77,15 @@ moded-first = fresh-keeps Plain encoder.fresh refl 10
 
 pub moded-next : (b : Bank) (r : Record) → Moded b → Moded (leaves b (turnOf (editionOf 3) b r))
 unfolding turnOf
-moded-next b (WriteSelect v) h = if-goes b (onSelect v b) 10 (allowed v) h (each-keeps Plain encoder.fresh (reroute (b .select) v) (λ i e p. p) 0 (b .encoders) h)
+moded-next b (WriteSelect v) h = if-goes b (onSelect false v b) 10 (allowed false v) h (each-keeps Plain encoder.fresh (reroute false (b .select) v) (λ i e p. p) 0 (b .encoders) h)
 moded-next b (WriteEncoder i v) h =
-    barred b (withEncoder i b (encoder.onCnfg v (encoderAt i b))) (encoderRouted (b .select) i) (encoder.mode v) (λ p. one-encoder i b _ p h) h
+    barred b (withEncoder i b (encoder.onCnfg v (encoderAt i b))) (encoderRouted false (b .select) i) (encoder.mode v) (λ p. one-encoder i b _ p h) h
 moded-next b (Pins i v) h =
     let e = encoderAt i b in
-    if-goes b (withEncoder i b (encoder.onPins v e)) 9 (encoderRouted (b .select) i) h (one-encoder i b (encoder.onPins v e) (ap encoder.mode (pins-cnfg v e) ∙ h i) h)
-moded-next b (WritePwm i g v) h = if-goes b (withPwm i b (pwm.onWrite g v (pwmAt i b))) 9 (pwmRouted (b .select) i) h h
-moded-next b (WriteI2c g v) h = lifted b 9 (i2cRouted (b .select)) (i2c.writeTurn g v (b .i2c)) h
-moded-next b (Answer v) h = lifted b 9 (i2cRouted (b .select)) (goes (i2c.onAnswer v (b .i2c))) h
+    if-goes b (withEncoder i b (encoder.onPins v e)) 9 (encoderRouted false (b .select) i) h (one-encoder i b (encoder.onPins v e) (ap encoder.mode (pins-cnfg v e) ∙ h i) h)
+moded-next b (WritePwm i g v) h = if-goes b (withPwm i b (pwm.onWrite g v (pwmAt i b))) 9 (pwmRouted false (b .select) i) h h
+moded-next b (WriteI2c g v) h = lifted b 9 (i2cRouted false (b .select)) (i2c.writeTurn g v (b .i2c)) h
+moded-next b (Answer v) h = lifted b 9 (i2cRouted false (b .select)) (goes (i2c.onAnswer v (b .i2c))) h
 moded-next b (Ticks t) h = h
 moded-next b ReadSelect h = h
 moded-next b (ReadEncoder i g) h = h

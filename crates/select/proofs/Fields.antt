@@ -40,22 +40,22 @@ two-pins select pin n h k =
     rw (← inside select pin (omega arith), ← inside select (pin + 1) h, ← next select pin, four x)
     (twice (x / 4 % 4) (x % 4) n (omega arith) k _ _ refl refl)
 
-pub pair-routed : (select i : ℕ) → i < 10 → eqb (select / 2 ^ (4 * i) % 16) 10 ≡ encoderRouted select i
+pub pair-routed : (select i : ℕ) → i < 10 → eqb (select / 2 ^ (4 * i) % 16) 10 ≡ encoderRouted false select i
 pair-routed select i h = let e : 4 * i ≡ 2 * (2 * i) = omega arith in rw e (two-pins select (2 * i) 2 (omega arith) (omega arith))
 
-pub i2c-pins : (select : ℕ) → eqb (select / 2 ^ 28 % 16) 15 ≡ i2cRouted select
+pub i2c-pins : (select : ℕ) → eqb (select / 2 ^ 28 % 16) 15 ≡ i2cRouted false select
 i2c-pins select = two-pins select 14 3 (omega arith) (omega arith)
 
-pub no-pair : (select i : ℕ) → 10 ≤ i → false ≡ encoderRouted select i
+pub no-pair : (select i : ℕ) → 10 ≤ i → false ≡ encoderRouted false select i
 no-pair select i h = rw (past select (2 * i) (omega arith))
 
 -- a routing turns on its own pins alone
 module _ (s t : ℕ) where
-  pub encoder-by-pins : (i : ℕ) → fieldOf s (2 * i) ≡ fieldOf t (2 * i) → fieldOf s (2 * i + 1) ≡ fieldOf t (2 * i + 1) → encoderRouted s i ≡ encoderRouted t i
+  pub encoder-by-pins : (i : ℕ) → fieldOf s (2 * i) ≡ fieldOf t (2 * i) → fieldOf s (2 * i + 1) ≡ fieldOf t (2 * i + 1) → encoderRouted false s i ≡ encoderRouted false t i
   encoder-by-pins i p q = rw (p, q)
 
-  pub pwm-by-pin : (i : ℕ) → fieldOf s i ≡ fieldOf t i → pwmRouted s i ≡ pwmRouted t i
+  pub pwm-by-pin : (i : ℕ) → fieldOf s i ≡ fieldOf t i → pwmRouted false s i ≡ pwmRouted false t i
   pwm-by-pin i p = rw p
 
-  pub i2c-by-pins : fieldOf s 14 ≡ fieldOf t 14 → fieldOf s 15 ≡ fieldOf t 15 → i2cRouted s ≡ i2cRouted t
+  pub i2c-by-pins : fieldOf s 14 ≡ fieldOf t 14 → fieldOf s 15 ≡ fieldOf t 15 → i2cRouted false s ≡ i2cRouted false t
   i2c-by-pins p q = rw (p, q)

@@ -4,4 +4,5 @@ mod Quick
 pub mod Fields
 pub mod Routes
 mod Means
+mod Ports
 pub mod Proved

@@ -28,8 +28,8 @@ pub record Allowed (select : ℕ) : Type 0 where
 
 -- refusal 10 is given exactly if one of them is broken
 pub record AllowedMeans (select : ℕ) : Type 0 where
-  pub means : allowed select ≡ true → Allowed select
-  pub suffices : Allowed select → allowed select ≡ true
+  pub means : allowed false select ≡ true → Allowed select
+  pub suffices : Allowed select → allowed false select ≡ true
 
 split-none : (a b c : Bool) → ((a || (b || c)) && not (a && (b && c))) ≡ false → (a ≡ b) × (b ≡ c)
 split-none true true true e = (refl, refl)
@@ -63,7 +63,7 @@ none-stray select pin h false e = refl
 pub allowed-means : (select : ℕ) → AllowedMeans select
 allowed-means select = record { means = means; suffices = suffices }
   where
-    means : allowed select ≡ true → Allowed select
+    means : allowed false select ≡ true → Allowed select
     means e =
         let a = neither _ _ (not-true _ e) in
         let b = neither _ _ (a .1) in
@@ -75,7 +75,7 @@ allowed-means select = record { means = means; suffices = suffices }
           pairs = λ i h. same _ _ (none-below (halves select) 10 (c .1) i h);
         }
 
-    suffices : Allowed select → allowed select ≡ true
+    suffices : Allowed select → allowed false select ≡ true
     suffices k =
         ap not
         (nor _ _ (all-fail (strays select) 20 (λ pin h. none-stray select pin (k .threes pin h) _ refl))

@@ -76,7 +76,7 @@ both : Allowed 4026596352
 unfolding fieldOf some
 both = allowed-means 4026596352 .means refl
 
-abbrev serial : ℕ → Bool
+abbrev pub serial : ℕ → Bool
 serial t = eqb t 0 || (eqb t 21504 || (eqb t 1342177280 || eqb t 1342198784))
 
 -- one of the four that has the same pins
@@ -112,7 +112,7 @@ serial-keeps s k = by (three s 5) (three s 14) refl refl
 
 -- ---- the pins that are 2
 
-abbrev paired : ℕ → Bool
+abbrev pub paired : ℕ → Bool
 paired e = eqb (bitAnd e 73300775185 * 5) e
 
 paired-means : (s : ℕ) → paired (twos s) ≡ true → (i : ℕ) → i < 10 → eqb (fieldOf s (2 * i)) 2 ≡ eqb (fieldOf s (2 * i + 1)) 2
@@ -143,9 +143,9 @@ means s e =
       pairs = paired-means s (h .1);
     }
 
-pub quick : (s t e : ℕ) → t ≡ threes s → e ≡ twos s → (serial t && paired e) ≡ allowed s
+pub quick : (s t e : ℕ) → t ≡ threes s → e ≡ twos s → (serial t && paired e) ≡ allowed false s
 quick s t e p q =
     rw (p, q)
-    (iff (serial (threes s) && paired (twos s)) (allowed s)
+    (iff (serial (threes s) && paired (twos s)) (allowed false s)
     (λ z. allowed-means s .suffices (means s z))
     (λ z. let k = allowed-means s .means z in rw (serial-keeps s k, paired-keeps s k)))

@@ -1,7 +1,7 @@
 -- How the code gets there: all pins at once, in a number with one place for each pin.
 -- Assumes nothing.
 use Prim.Native.Nat.{ℕ, zero, suc, _+_, _*_, _/_, _%_}
-use mathlib.Core.Bool.{Bool}
+use mathlib.Core.Bool.{Bool, cond}
 use lib.Dec.{eqb}
 use Rattle.bits.specs.Bits.{num}
 
@@ -18,3 +18,7 @@ twos = marks (λ field. eqb field 2) 20
 
 abbrev pub ones : ℕ → ℕ
 ones = marks (λ field. eqb field 1) 20
+
+-- the PWM channels that are routed, in the same places; a port's are in bits 2, 3 and 4
+abbrev pub pwmPins : Bool → ℕ → ℕ
+pwmPins port select = cond port (select / 4 % 2 + select / 8 % 2 * 4 + select / 16 % 2 * 16) (ones select)

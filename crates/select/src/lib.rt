@@ -1,7 +1,8 @@
-// The function select: what each of the 20 DIO pins serves, and which blocks are routed.
+// The function select: what each of the 20 DIO pins of an ELVIS III serves, or of a myRIO's expansion port, and which blocks are routed.
 ghost use mathlib.Core.Path.{_≡_};
+ghost use mathlib.Core.Bool.{true};
 ghost use Rattle.select.specs.Select.{fieldOf, allowed, encoderRouted, pwmRouted, i2cRouted};
-ghost use Rattle.select.specs.How.{ones, threes, twos};
+ghost use Rattle.select.specs.How.{pwmPins, threes, twos};
 
 // The two bits of a pin.
 fn field(select: u64, pin: usize) -> u64
@@ -40,17 +41,23 @@ fn twos(select: u64) -> u64
 }
 
 // The PWM channels that are routed: bit 2 i of the answer for channel i, and nothing else.
-pub fn pwm_pins(select: u64) -> u64
-    ensures { λ r. ⌜ r ≡ ones select ⌝ }
+pub fn pwm_pins(port: bool, select: u64) -> u64
+    ensures { λ r. ⌜ r ≡ pwmPins port select ⌝ }
 {
+    if port {
+        return (select >> 2) % 2 + (select >> 3) % 2 * 4 + (select >> 4) % 2 * 16;
+    }
     ((select | (select >> 1)) ^ (select >> 1)) & PINS
 }
 
 // Whether the combination is allowed: the pins that are 3 are none, those of SPI, those of I2C or both; the pins that
 // are 2 are the low pins of pairs, each with the next one (1 + 4 times).
-pub fn allowed(select: u64) -> bool
-    ensures { λ r. ⌜ r ≡ allowed select ⌝ }
+pub fn allowed(port: bool, select: u64) -> bool
+    ensures { λ r. ⌜ r ≡ allowed port select ⌝ }
 {
+    if port {
+        return true;
+    }
     let serial = threes(select);
     let encoders = twos(select);
     ((serial == 0) | ((serial == SPI) | ((serial == I2C) | (serial == BOTH))))
@@ -58,24 +65,42 @@ pub fn allowed(select: u64) -> bool
 }
 
 // The two pins of encoder i are 2 both: their four bits are 1010.
-pub fn encoder_routed(select: u64, i: usize) -> bool
-    ensures { λ r. ⌜ r ≡ encoderRouted select i ⌝ }
+pub fn encoder_routed(port: bool, select: u64, i: usize) -> bool
+    ensures { λ r. ⌜ r ≡ encoderRouted port select i ⌝ }
 {
+    if port {
+        return (i == 0) & ((select >> 5) % 2 == 1);
+    }
     if i < 10 {
         return (select >> (4 * i)) % 16 == 10;
     }
     false
 }
 
-pub fn pwm_routed(select: u64, i: usize) -> bool
-    ensures { λ r. ⌜ r ≡ pwmRouted select i ⌝ }
+fn port_pwm(select: u64, i: usize) -> bool
+    ensures { λ r. ⌜ r ≡ pwmRouted true select i ⌝ }
 {
+    if i < 3 {
+        return (select >> (2 + i)) % 2 == 1;
+    }
+    false
+}
+
+pub fn pwm_routed(port: bool, select: u64, i: usize) -> bool
+    ensures { λ r. ⌜ r ≡ pwmRouted port select i ⌝ }
+{
+    if port {
+        return port_pwm(select, i);
+    }
     field(select, i) == 1
 }
 
 // Pins 14 and 15 are 3 both.
-pub fn i2c_routed(select: u64) -> bool
-    ensures { λ r. ⌜ r ≡ i2cRouted select ⌝ }
+pub fn i2c_routed(port: bool, select: u64) -> bool
+    ensures { λ r. ⌜ r ≡ i2cRouted port select ⌝ }
 {
+    if port {
+        return (select >> 7) % 2 == 1;
+    }
     (select >> 28) % 16 == 15
 }

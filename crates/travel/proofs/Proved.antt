@@ -78,15 +78,15 @@ all-sound o rs = laws.keeps (turnOf o) (Both Sound) (sound-turn o) fresh rs soun
 
 -- at encoder i a run is the encoder's own
 follows : (o : Edition) (k i : ℕ) → k < 2 → i < 10 → (b : State) (rs : List (List ℕ)) → Both Sound b → runOf (turnOf o) b rs .course ≡ going
-    → viewAt k i (runOf (turnOf o) b rs .state) ≡ foldl onEvent (viewAt k i b) (map (eventAt k i) rs)
-follows o k i l h b rs s goes = laws.seen-by (turnOf o) (Both Sound) (sound-turn o) (viewAt k i) (eventAt k i) onEvent (turn-view o k i l h) b rs s goes
+    → viewAt (o .port) k i (runOf (turnOf o) b rs .state) ≡ foldl onEvent (viewAt (o .port) k i b) (map (eventAt (o .port) k i) rs)
+follows o k i l h b rs s goes = laws.seen-by (turnOf o) (Both Sound) (sound-turn o) (viewAt (o .port) k i) (eventAt (o .port) k i) onEvent (turn-view o k i l h) b rs s goes
 
 from-state : (o : Edition) (k i : ℕ) (b : State) (r : List ℕ) (rs : List (List ℕ)) → Both Sound b → names k 3 1 i r ≡ true
-    → countsInQuadrature (encoderRouted (bankAt k b .select) i) (encoderAt i (bankAt k b) .cnfg) ≡ true → undisturbed k i rs ≡ true → runOf (turnOf o) b (r ∷ rs) .course ≡ going
+    → countsInQuadrature (encoderRouted (o .port) (bankAt k b .select) i) (encoderAt i (bankAt k b) .cnfg) ≡ true → undisturbed (o .port) k i rs ≡ true → runOf (turnOf o) b (r ∷ rs) .course ≡ going
     → Demand (pinsIn k i (r ∷ rs)) (encoderAt i (bankAt k (runOf (turnOf o) b (r ∷ []) .state)) .count) (encoderAt i (bankAt k (runOf (turnOf o) b (r ∷ rs) .state)) .count)
 from-state o k i b r rs sound begins counts calm goes =
     let v = leOf 8 r 8 in
-    let c = viewAt k i b in
+    let c = viewAt (o .port) k i b in
     let goes-first = laws.first-goes (turnOf o) b (r ∷ []) rs goes in
     let decoded = turn-pins o k i b r begins (goes-applies (turnOf o) b r goes-first) in
     let within = formed o r (Pins i v) decoded .1 in
@@ -94,14 +94,14 @@ from-state o k i b r rs sound begins counts calm goes =
     let ready = first-ready c v counts (sound .each k in-two .ranges i .count) in
     let first = follows o k i in-two within b (r ∷ []) sound goes-first in
     let last = follows o k i in-two within b (r ∷ rs) sound goes in
-    let is : eventAt k i r ≡ pins v = event-pins o i r k begins in
-    let shows : v ∷ pinsAmong (map (eventAt k i) rs) ≡ pinsIn k i (r ∷ rs) = sym (rw begins (ap (λ (l : List ℕ). v ∷ l) (pins-among k i rs))) in
-    let counted = counting (onEvent c (pins v)) v (map (eventAt k i) rs) ready (all-quiet k i rs calm) in
+    let is : eventAt (o .port) k i r ≡ pins v = event-pins o i r k begins in
+    let shows : v ∷ pinsAmong (map (eventAt (o .port) k i) rs) ≡ pinsIn k i (r ∷ rs) = sym (rw begins (ap (λ (l : List ℕ). v ∷ l) (pins-among (o .port) k i rs))) in
+    let counted = counting (onEvent c (pins v)) v (map (eventAt (o .port) k i) rs) ready (all-quiet (o .port) k i rs calm) in
     demand _ _ _ (all-pins o k i b (r ∷ rs) goes)
-    (ap (λ (d : Channel). d .encoder .count) (last ∙ ap (λ (x : Event). foldl onEvent (onEvent c x) (map (eventAt k i) rs)) is)
+    (ap (λ (d : Channel). d .encoder .count) (last ∙ ap (λ (x : Event). foldl onEvent (onEvent c x) (map (eventAt (o .port) k i) rs)) is)
     ∙ counted
-    ∙ ap (λ (x : Event). wrap (onEvent c x .encoder .count +ℤ steps (v ∷ pinsAmong (map (eventAt k i) rs)))) (sym is)
-    ∙ ap (λ (d : Channel). wrap (d .encoder .count +ℤ steps (v ∷ pinsAmong (map (eventAt k i) rs)))) (sym first)
+    ∙ ap (λ (x : Event). wrap (onEvent c x .encoder .count +ℤ steps (v ∷ pinsAmong (map (eventAt (o .port) k i) rs)))) (sym is)
+    ∙ ap (λ (d : Channel). wrap (d .encoder .count +ℤ steps (v ∷ pinsAmong (map (eventAt (o .port) k i) rs)))) (sym first)
     ∙ ap (λ (vs : List ℕ). wrap (encoderAt i (bankAt k (runOf (turnOf o) b (r ∷ []) .state)) .count +ℤ steps vs)) shows)
 
 pub demand-of-runs : DemandOfRuns
