@@ -80,7 +80,7 @@ test_of_the_tests() {
     beside gives 'compare: a driver without a mistake is let pass' '0 0 0' short "$programs/stand-in" none
     local mistakes mistake
     mapfile -t mistakes < <("$programs/stand-in" list)
-    same 'compare: there are mistakes to make' 179 ${#mistakes[@]}
+    same 'compare: there are mistakes to make' 229 ${#mistakes[@]}
     for mistake in "${mistakes[@]}"; do
         beside gives "compare: a driver with the mistake $mistake is seen" '1 1 0' short "$programs/stand-in" "$mistake"
     done

@@ -81,14 +81,18 @@ pub const FAMILIES: &[Family] = &[
     family!("every mark", false, in_order::marks),
     family!("outputs of every length", false, in_order::outputs),
     family!("every access", false, in_order::accesses),
+    family!("every register", false, in_order::registers),
     family!("every bit of a record", false, in_order::bits),
     family!("every byte for the bank", false, in_order::bank_bytes),
+    family!("every encoder CNFG", false, in_order::encoder_cnfgs),
     family!("every five pins", false, in_order::pins),
     family!("every small PWM", false, in_order::pwms),
     family!("waits to every edge", false, in_order::waits),
     family!("counters above MAX", false, in_order::counters_above),
     family!("every I2C code", false, in_order::i2c_codes),
     family!("every pair of pin functions", false, in_order::selects),
+    family!("every byte for a port", false, in_order::port_selects),
+    family!("ports rerouted", false, in_order::ports_rerouted),
     family!("transcripts", true, judged::transcripts),
     family!("transcripts of full logs", true, judged::full_logs),
     family!("every bit of a transcript", false, judged::bits),
@@ -147,8 +151,50 @@ fn lent_well(log: Vec<u8>, rng: &mut Rng) -> Request {
     lent(log, out_len, rng)
 }
 
+/// A log lent with an output that is long enough, to the byte or with some to spare.
+fn lent_roomy(log: Vec<u8>, rng: &mut Rng) -> Request {
+    let spare = rng.pick(&[0, 0, 0, 1, 7, 8, 40]);
+    let out_len = needed(&log) + spare;
+    lent(log, out_len, rng)
+}
+
 fn banks(edition: Edition) -> Range<u8> {
     0..1 + u8::from(edition.rules().bank_b)
+}
+
+fn some_encoder(edition: Edition, rng: &mut Rng) -> u8 {
+    rng.below(edition.rules().encoders as u64) as u8
+}
+
+fn some_pwm(edition: Edition, rng: &mut Rng) -> u8 {
+    rng.below(edition.rules().pwms as u64) as u8
+}
+
+/// A SELECT that routes all encoders of a bank.
+fn every_encoder(edition: Edition) -> u64 {
+    if edition.rules().port {
+        1 << 5
+    } else {
+        0xAA_AAAA_AAAA
+    }
+}
+
+/// A SELECT that routes all PWM channels of a bank.
+fn every_pwm(edition: Edition) -> u64 {
+    if edition.rules().port {
+        0b111 << 2
+    } else {
+        0x55_5555_5555
+    }
+}
+
+/// A SELECT that routes I2C.
+fn i2c_alone(edition: Edition) -> u64 {
+    if edition.rules().port {
+        1 << 7
+    } else {
+        0xF << 28
+    }
 }
 
 fn some_bank(edition: Edition, rng: &mut Rng) -> u8 {
@@ -176,15 +222,16 @@ fn reads_of_a_bank(edition: Edition) -> impl Iterator<Item = Fields> {
     } else {
         &[0, 1, 3]
     };
-    let of = |block, channels: u8, registers: &'static [u8]| {
-        (0..channels).flat_map(move |channel| {
+    let rules = edition.rules();
+    let of = |block, channels: usize, registers: &'static [u8]| {
+        (0..channels as u8).flat_map(move |channel| {
             let read = move |&register| Fields::read(block, channel, register);
             registers.iter().map(read)
         })
     };
     of(SELECT, 1, &[0])
-        .chain(of(ENCODER, 10, &[0, 1, 2]))
-        .chain(of(PWM, 20, &[0, 1, 2, 3, 4, 5]))
+        .chain(of(ENCODER, rules.encoders, &[0, 1, 2]))
+        .chain(of(PWM, rules.pwms, &[0, 1, 2, 3, 4, 5]))
         .chain(of(I2C, 1, of_i2c))
 }
 

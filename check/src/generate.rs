@@ -6,6 +6,7 @@ mod damage;
 mod faults;
 mod maker;
 mod rng;
+mod routing;
 mod scenes;
 mod waits;
 

@@ -1,7 +1,9 @@
 //! Families that are never done.
 
 use super::in_order::log_of;
-use super::{all_reads, banks, in_bank, lent, lent_well, some_bank, Requests, Size};
+use super::{
+    all_reads, banks, every_encoder, every_pwm, in_bank, lent, lent_well, some_bank, Requests, Size,
+};
 use crate::generate::{change_bytes, damage, flip_bits, generate, wait, Rng, Settings};
 use crate::reference::edition::{Edition, EDITIONS};
 use crate::reference::log::{build, Trailer, LOG_MAX, RECORDS_MAX, TRAILER_LEN};
@@ -98,7 +100,11 @@ pub fn random_records(mut rng: Rng, size: Size) -> Requests {
         let mut records = Vec::new();
         for bank in banks(edition) {
             if rng.chance(70) {
-                let select = rng.pick(&[0x55_5555_5555, 0xAA_AAAA_AAAA, 0xAA_F555_5AAA]);
+                let select = if edition.rules().port {
+                    rng.pick(&[0xBF, 0xA0, 0x3C, 0x20])
+                } else {
+                    rng.pick(&[0x55_5555_5555, 0xAA_AAAA_AAAA, 0xAA_F555_5AAA])
+                };
                 let write = Fields::write(SELECT, 0, 0, select).in_bank(bank);
                 records.push(write.to_bytes());
             }
@@ -122,7 +128,7 @@ fn random_record(edition: Edition, wide: bool, rng: &mut Rng) -> Fields {
     let mut fields = Fields {
         kind: small(5, rng),
         block: small(3, rng),
-        channel: small(10, rng),
+        channel: small(if edition.rules().port { 3 } else { 10 }, rng),
         register: small(4, rng),
         ..Fields::default()
     };
@@ -173,17 +179,21 @@ fn random_bytes_of_record(rng: &mut Rng) -> [u8; RECORD_LEN] {
 
 pub fn random_selects(mut rng: Rng, size: Size) -> Requests {
     Box::new((0..size.of(1_000, 10_000)).map(move |_| {
+        let edition = rng.pick(&EDITIONS);
         let mut value = rng.draw() >> 24;
         if rng.chance(80) {
-            value = without_lone_threes(value, &mut rng);
+            value = if edition.rules().port {
+                value & 0xFF
+            } else {
+                without_lone_threes(value, &mut rng)
+            };
         }
-        let first = rng.pick(&[0x55_5555_5555, 0xAA_AAAA_AAAA, 0]);
+        let first = rng.pick(&[every_pwm(edition), every_encoder(edition), 0]);
         let records = [
             Fields::write(SELECT, 0, 0, first),
             Fields::write(SELECT, 0, 0, value),
             Fields::read(SELECT, 0, 0),
         ];
-        let edition = rng.pick(&EDITIONS);
         let records = in_bank(some_bank(edition, &mut rng), &records);
         lent(log_of(edition, &records), 8, &mut rng)
     }))
@@ -194,9 +204,9 @@ pub fn random_selects(mut rng: Rng, size: Size) -> Requests {
 pub fn long_waits(mut rng: Rng, size: Size) -> Requests {
     Box::new((0..size.of(1_000, 30_000)).map(move |_| {
         let edition = rng.pick(&EDITIONS);
-        let all = Fields::write(SELECT, 0, 0, 0x55_5555_5555);
+        let all = Fields::write(SELECT, 0, 0, every_pwm(edition));
         let mut records: Vec<Fields> = banks(edition).map(|bank| all.in_bank(bank)).collect();
-        let first = rng.below(18) as u8;
+        let first = rng.below(edition.rules().pwms as u64 - 2) as u8;
         // One and the same channel of both banks may be among them.
         let channels = [first, first + 1, first + rng.below(3) as u8]
             .map(|channel| (some_bank(edition, &mut rng), channel));

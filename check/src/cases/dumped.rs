@@ -258,7 +258,7 @@ pub fn each_encoder(mut rng: Rng, size: Size) -> Requests {
         .collect();
     let editions = match size {
         Size::Full => EDITIONS.to_vec(),
-        Size::Short => vec![Edition::Two],
+        Size::Short => vec![Edition::Two, Edition::Four],
     };
     let all = editions
         .into_iter()

@@ -1,19 +1,19 @@
 //! Families that go through everything of a kind.
 
 use super::{
-    all_reads, banks, in_bank, lent, lent_well, needed, reads_of_a_bank, some_bank, Requests, Size,
+    all_reads, banks, every_encoder, every_pwm, i2c_alone, in_bank, lent, lent_roomy, needed,
+    reads_of_a_bank, some_bank, some_encoder, some_pwm, Requests, Size,
 };
 use crate::exchange::{Request, PLACES};
 use crate::generate::{generate, Rng, Settings};
 use crate::reference::edition::{Edition, EDITIONS};
 use crate::reference::i2c::STATE;
 use crate::reference::log::{build, Trailer, LOG_MAX, MARK, RECORDS_MAX, TRAILER_LEN};
-use crate::reference::record::{Fields, ENCODER, I2C, PWM, RECORD_LEN, SELECT, TICKS_MAX};
+use crate::reference::record::{Fields, ENCODER, I2C, PWM, READ, RECORD_LEN, SELECT, TICKS_MAX};
 use std::collections::BTreeSet;
 
-pub const ALL_ENCODERS: u64 = 0xAA_AAAA_AAAA;
-const ALL_PWMS: u64 = 0x55_5555_5555;
-const I2C_PINS: u64 = 0xF << 28;
+/// A SELECT that is allowed in every edition: PWM channels 0 to 2 of a bank, 0 and 2 of a port.
+const SOME_PWMS: u64 = 0b1_0101;
 
 pub fn log_of(edition: Edition, records: &[Fields]) -> Vec<u8> {
     let bytes: Vec<_> = records.iter().map(|fields| fields.to_bytes()).collect();
@@ -30,7 +30,7 @@ fn in_each_edition<I: Iterator>(all: fn() -> I) -> impl Iterator<Item = (Edition
 /// A log of these records in some bank.
 fn lent_somewhere(edition: Edition, records: &[Fields], rng: &mut Rng) -> Request {
     let records = in_bank(some_bank(edition, rng), records);
-    lent_well(log_of(edition, &records), rng)
+    lent_roomy(log_of(edition, &records), rng)
 }
 
 fn made_log(most_records: usize, rng: &mut Rng) -> Vec<u8> {
@@ -100,10 +100,10 @@ fn with_trailer(log: &[u8], trailer: Trailer) -> Vec<u8> {
 /// Notes, then a few records with two reads.
 fn small_log(edition: Edition) -> Vec<u8> {
     let records = [
-        Fields::write(SELECT, 0, 0, ALL_ENCODERS),
+        Fields::write(SELECT, 0, 0, SOME_PWMS),
         Fields::read(SELECT, 0, 0),
         Fields::ticks(1),
-        Fields::read(ENCODER, 3, 2),
+        Fields::read(ENCODER, 0, 2),
     ];
     build(edition, &[2; 21], &records.map(Fields::to_bytes))
 }
@@ -123,7 +123,7 @@ pub fn distances(mut rng: Rng, _: Size) -> Requests {
         .chain(u32::MAX - 40..=u32::MAX);
     Box::new(distances.map(move |distance| {
         let near = with_trailer(&log, Trailer::of(edition, distance));
-        lent_well(near, &mut rng)
+        lent_roomy(near, &mut rng)
     }))
 }
 
@@ -190,7 +190,7 @@ fn log_with_reads(reads: usize, rng: &mut Rng) -> Vec<u8> {
         if reads < RECORDS_MAX && rng.chance(30) {
             records.push(Fields::ticks(1));
         }
-        let read = Fields::read(PWM, rng.below(20) as u8, rng.below(6) as u8);
+        let read = Fields::read(PWM, some_pwm(edition, rng), rng.below(6) as u8);
         records.push(read.in_bank(some_bank(edition, rng)));
     }
     if rng.chance(50) && reads > 0 {
@@ -234,7 +234,8 @@ pub fn accesses(mut rng: Rng, size: Size) -> Requests {
     let all = in_each_edition(every_access).step_by(step);
     Box::new(all.map(move |(edition, access)| {
         let mut select = |bank| {
-            let value = rng.pick(&[0, ALL_ENCODERS, ALL_PWMS, ALL_PWMS | I2C_PINS]);
+            let (pwms, i2c) = (every_pwm(edition), i2c_alone(edition));
+            let value = rng.pick(&[0, every_encoder(edition), pwms, pwms | i2c]);
             Fields::write(SELECT, 0, 0, value).in_bank(bank)
         };
         let mut records: Vec<Fields> = banks(edition).map(&mut select).collect();
@@ -245,7 +246,7 @@ pub fn accesses(mut rng: Rng, size: Size) -> Requests {
         };
         let accesses = in_bank(some_bank(edition, &mut rng), &[access, again]);
         records.extend(accesses);
-        lent_well(log_of(edition, &records), &mut rng)
+        lent_roomy(log_of(edition, &records), &mut rng)
     }))
 }
 
@@ -271,6 +272,68 @@ fn every_access() -> impl Iterator<Item = Fields> {
             })
         })
     })
+}
+
+/// Every kind of record for every register, and for what is next to those that are listed, in every bank, once
+/// where its block is routed as far as can be and once where nothing is; then reads. The value is in each range.
+pub fn registers(mut rng: Rng, size: Size) -> Requests {
+    let all = EDITIONS.into_iter().flat_map(move |edition| {
+        banks(edition).flat_map(move |bank| {
+            every_register(size).flat_map(move |access| {
+                [true, false].map(|routed| (edition, access.in_bank(bank), routed))
+            })
+        })
+    });
+    Box::new(all.map(move |(edition, access, routed)| {
+        let mut records = Vec::new();
+        if routed {
+            records.extend(whole_block(edition, access.block));
+        }
+        records.push(Fields { bank: 0, ..access });
+        records.push(Fields::read(access.block, access.channel, access.register));
+        records.push(Fields::read(SELECT, 0, 0));
+        lent_roomy(log_of(edition, &in_bank(access.bank, &records)), &mut rng)
+    }))
+}
+
+fn every_register(size: Size) -> impl Iterator<Item = Fields> {
+    let short = size == Size::Short;
+    let kinds = (0..=6).chain([255]);
+    let kinds = kinds.filter(move |kind| !short || (1..=5).contains(kind));
+    let places = (0..=4u8).flat_map(|block| {
+        let channels = (0..=21).chain([255]);
+        channels.flat_map(move |channel| {
+            let registers = (0..=6u8).chain([255]);
+            registers.map(move |register| (block, channel, register))
+        })
+    });
+    let near = |(block, channel, register): (u8, u8, u8)| {
+        block <= 3 && [0, 1, 2, 3, 9, 10, 19, 20].contains(&channel) && register <= 5
+    };
+    let places = places.filter(move |&place| !short || near(place));
+    kinds.flat_map(move |kind| {
+        places
+            .clone()
+            .map(move |(block, channel, register)| Fields {
+                kind,
+                block,
+                channel,
+                register,
+                value: u64::from(kind != READ),
+                ..Fields::default()
+            })
+    })
+}
+
+/// Routes all channels of a block, and makes GO one that is allowed.
+fn whole_block(edition: Edition, block: u8) -> Vec<Fields> {
+    let select = |value| Fields::write(SELECT, 0, 0, value);
+    match block {
+        ENCODER => vec![select(every_encoder(edition))],
+        PWM => vec![select(every_pwm(edition))],
+        I2C => vec![select(i2c_alone(edition)), Fields::write(I2C, 0, 1, 0b0011)],
+        _ => Vec::new(),
+    }
 }
 
 /// A record of each kind for each register, with every one of its bits turned over, in a short run in some
@@ -312,17 +375,18 @@ pub fn bank_bytes(mut rng: Rng, size: Size) -> Requests {
 
 /// The record behind those that turn all on, and then what shows what has become of the banks.
 fn shown(edition: Edition, record: [u8; RECORD_LEN], rng: &mut Rng) -> Request {
-    let more = [Fields::pins(ON_ENCODER, 3), Fields::ticks(77)];
+    let (encoder, _) = channels_on(edition);
+    let more = [Fields::pins(encoder, 3), Fields::ticks(77)];
     let more = banks(edition).flat_map(|bank| in_bank(bank, &more));
     let mut records: Vec<_> = all_on(edition).map(Fields::to_bytes).collect();
     records.push(record);
     records.extend(more.chain(all_reads(edition)).map(Fields::to_bytes));
-    lent_well(build(edition, &[], &records), rng)
+    lent_roomy(build(edition, &[], &records), rng)
 }
 
 /// One of each of a bank at work, in every bank.
 fn all_on(edition: Edition) -> impl Iterator<Item = Fields> {
-    banks(edition).flat_map(|bank| in_bank(bank, &all_on_in(bank)))
+    banks(edition).flat_map(move |bank| in_bank(bank, &all_on_in(edition, bank)))
 }
 
 /// Each is applied behind those.
@@ -330,21 +394,32 @@ fn one_of_each(edition: Edition) -> impl Iterator<Item = Fields> {
     banks(edition).flat_map(move |bank| in_bank(bank, &one_of_each_in(edition, bank)))
 }
 
-const ON_ENCODER: u8 = 2;
-const ON_PWM: u8 = 9;
+/// The encoder and the PWM channel that are at work.
+fn channels_on(edition: Edition) -> (u8, u8) {
+    if edition.rules().port {
+        (0, 2)
+    } else {
+        (2, 9)
+    }
+}
 
 /// Encoders, PWM channels and I2C routed side by side, and one of each at work, otherwise in each bank.
-fn all_on_in(bank: u8) -> Vec<Fields> {
+fn all_on_in(edition: Edition, bank: u8) -> Vec<Fields> {
     let other = u64::from(bank);
-    let select = 0xAAAA | 0x555 << 16 | I2C_PINS | (0x55 - other) << 32;
+    let (encoder, pwm) = channels_on(edition);
+    let select = if edition.rules().port {
+        0xBF - other
+    } else {
+        0xAAAA | 0x555 << 16 | 0xF << 28 | (0x55 - other) << 32
+    };
     vec![
         Fields::write(SELECT, 0, 0, select),
-        Fields::write(ENCODER, ON_ENCODER, 0, 1),
-        Fields::pins(ON_ENCODER, 0),
-        Fields::write(PWM, ON_PWM, 0, 4),
-        Fields::write(PWM, ON_PWM, 1, 2),
-        Fields::write(PWM, ON_PWM, 2, 40 + other),
-        Fields::write(PWM, ON_PWM, 3, 20 + other),
+        Fields::write(ENCODER, encoder, 0, 1),
+        Fields::pins(encoder, 0),
+        Fields::write(PWM, pwm, 0, 4),
+        Fields::write(PWM, pwm, 1, 2),
+        Fields::write(PWM, pwm, 2, 40 + other),
+        Fields::write(PWM, pwm, 3, 20 + other),
         Fields::ticks(33),
         Fields::write(I2C, 0, 0, 8 + 2 * other),
         Fields::write(I2C, 0, 1, 0b0011),
@@ -352,28 +427,77 @@ fn all_on_in(bank: u8) -> Vec<Fields> {
 }
 
 fn one_of_each_in(edition: Edition, bank: u8) -> Vec<Fields> {
-    let mut records = all_on_in(bank);
+    let (encoder, pwm) = channels_on(edition);
+    let mut records = all_on_in(edition, bank);
     if edition.rules().slaves_answer {
         records.push(Fields::answer(2));
     }
-    records.push(Fields::write(PWM, ON_PWM, 0, 5));
+    records.push(Fields::write(PWM, pwm, 0, 5));
     records.push(Fields::write(I2C, 0, 2, 1));
-    records.push(Fields::pins(ON_ENCODER, 1));
+    records.push(Fields::pins(encoder, 1));
     records.extend(reads_of_a_bank(edition).filter(|read| match read.block {
-        ENCODER => read.channel == ON_ENCODER,
-        PWM => read.channel == ON_PWM,
+        ENCODER => read.channel == encoder,
+        PWM => read.channel == pwm,
         _ => true,
     }));
     records
+}
+
+#[derive(Clone, Copy)]
+enum Which {
+    First,
+    Last,
+    Some,
+}
+
+/// Every CNFG and some above the range, in every bank, of an encoder that is routed and of one that is not; then
+/// what has become of it, and of the same encoder in the other bank.
+pub fn encoder_cnfgs(mut rng: Rng, _: Size) -> Requests {
+    let values = (0..=64u64).chain([0x104, 0x1_0000_0004, 1 << 63 | 4, u64::MAX]);
+    let all = EDITIONS.into_iter().flat_map(move |edition| {
+        let values = values.clone();
+        banks(edition).flat_map(move |bank| {
+            let values = values.clone();
+            let ways = values.flat_map(|value| [(value, true), (value, false)]);
+            ways.flat_map(move |(value, routed)| {
+                [Which::First, Which::Last, Which::Some]
+                    .map(|which| (edition, bank, value, routed, which))
+            })
+        })
+    });
+    Box::new(all.map(move |(edition, bank, value, routed, which)| {
+        let channel = match which {
+            Which::First => 0,
+            Which::Last => edition.rules().encoders as u8 - 1,
+            Which::Some => some_encoder(edition, &mut rng),
+        };
+        let select = Fields::write(SELECT, 0, 0, every_encoder(edition));
+        let mut records: Vec<Fields> = banks(edition)
+            .filter(|&other| routed || other != bank)
+            .map(|bank| select.in_bank(bank))
+            .collect();
+        records.push(Fields::write(ENCODER, channel, 0, value).in_bank(bank));
+        for pins in [0, 1, 3] {
+            records.push(Fields::pins(channel, pins).in_bank(bank));
+        }
+        for bank in banks(edition) {
+            let reads = [0, 1, 2].map(|register| Fields::read(ENCODER, channel, register));
+            records.extend(in_bank(bank, &reads));
+        }
+        lent_roomy(log_of(edition, &records), &mut rng)
+    }))
 }
 
 /// Every setting of EN, RST and MODE with every five pins, read after each.
 pub fn pins(mut rng: Rng, _: Size) -> Requests {
     let all = (0..8u64).flat_map(|cnfg| (0..4u64.pow(5)).map(move |walk| (cnfg, walk)));
     Box::new(all.map(move |(cnfg, walk)| {
-        let channel = rng.below(10) as u8;
+        let allowed = |edition: &Edition| cnfg & 4 == 0 || !edition.rules().quadrature_only;
+        let taken: Vec<Edition> = EDITIONS.into_iter().filter(allowed).collect();
+        let edition = rng.pick(&taken);
+        let channel = some_encoder(edition, &mut rng);
         let mut records = vec![
-            Fields::write(SELECT, 0, 0, ALL_ENCODERS),
+            Fields::write(SELECT, 0, 0, every_encoder(edition)),
             Fields::write(ENCODER, channel, 0, cnfg),
         ];
         for step in 0..5 {
@@ -388,7 +512,7 @@ pub fn pins(mut rng: Rng, _: Size) -> Requests {
             records.push(Fields::pins(channel, rng.below(4)));
             records.push(Fields::read(ENCODER, channel, 1));
         }
-        lent_somewhere(rng.pick(&EDITIONS), &records, &mut rng)
+        lent_somewhere(edition, &records, &mut rng)
     }))
 }
 
@@ -404,8 +528,8 @@ pub fn pwms(mut rng: Rng, _: Size) -> Requests {
         })
     });
     Box::new(all.map(move |(edition, (max, cmp, cnfg, cs))| {
-        let channel = rng.below(20) as u8;
-        let mut records = vec![Fields::write(SELECT, 0, 0, ALL_PWMS)];
+        let channel = some_pwm(edition, &mut rng);
+        let mut records = vec![Fields::write(SELECT, 0, 0, every_pwm(edition))];
         let writes = [cnfg, cs, max, cmp];
         for (register, value) in (0..4).zip(writes) {
             records.push(Fields::write(PWM, channel, register, value));
@@ -441,11 +565,11 @@ pub fn waits(mut rng: Rng, _: Size) -> Requests {
         })
     });
     Box::new(all.map(move |(edition, writes)| {
-        let channel = rng.below(20) as u8;
+        let channel = some_pwm(edition, &mut rng);
         let write = |register: u8, value| Fields::write(PWM, channel, register, value);
         let look = [4, 5].map(|register| Fields::read(PWM, channel, register));
         let [_, cs, max, _] = writes;
-        let mut records = vec![Fields::write(SELECT, 0, 0, ALL_PWMS)];
+        let mut records = vec![Fields::write(SELECT, 0, 0, every_pwm(edition))];
         records.extend(
             (0..4)
                 .zip(writes)
@@ -503,11 +627,11 @@ pub fn counters_above(mut rng: Rng, _: Size) -> Requests {
         })
     });
     Box::new(all.map(move |(edition, (max, counter, cmp, cnfg, cs))| {
-        let channel = rng.below(20) as u8;
+        let channel = some_pwm(edition, &mut rng);
         let write = |register: u8, value| Fields::write(PWM, channel, register, value);
         let look = [4, 5].map(|register| Fields::read(PWM, channel, register));
         let mut records = vec![
-            Fields::write(SELECT, 0, 0, ALL_PWMS),
+            Fields::write(SELECT, 0, 0, every_pwm(edition)),
             write(0, cnfg),
             write(1, 1),
             write(3, rng.pick(&[0, 65_535])),
@@ -558,7 +682,8 @@ fn edges_above(max: u64, counter: u64) -> impl Iterator<Item = u64> {
 }
 
 /// Every state, R/S and control code, after a byte that was acknowledged and after one that was not, and with
-/// every answer of the slave; then STOP alone, which shows what is recalled, or another byte.
+/// every answer of the slave, straight on and with SELECT away and back in between; then STOP alone, which shows
+/// what is recalled, or another byte.
 pub fn i2c_codes(mut rng: Rng, _: Size) -> Requests {
     // The codes that lead to idle, TX idle and RX idle, if any, by R/S and CNTL.
     let before = [
@@ -572,20 +697,23 @@ pub fn i2c_codes(mut rng: Rng, _: Size) -> Requests {
         (0..2u64).flat_map(move |receive| (0..16u64).map(move |cntl| (before, receive, cntl)))
     });
     let all = all.flat_map(|(before, receive, cntl)| {
-        BETWEEN.map(|between| (before, between, receive, cntl))
+        [false, true].map(|away| (before, away, receive, cntl))
     });
-    Box::new(all.flat_map(move |(before, between, receive, cntl)| {
+    Box::new(all.flat_map(move |(before, away, receive, cntl)| {
         let mut requests = Vec::new();
         for edition in EDITIONS {
-            let select = |&value| Fields::write(SELECT, 0, 0, value);
+            let select = |value| Fields::write(SELECT, 0, 0, value);
+            let here = select(i2c_alone(edition));
             let look: Vec<Fields> = reads_of_a_bank(edition)
                 .filter(|read| read.block == I2C && read.register >= STATE)
                 .collect();
             for answers in answers(edition, &mut rng) {
-                let mut records = vec![select(&I2C_PINS)];
+                let mut records = vec![here];
                 records.extend(before.into_iter().flat_map(|(addr, cntl)| go(addr, cntl)));
                 records.extend(answers.into_iter().map(Fields::answer));
-                records.extend(between.iter().map(select));
+                if away {
+                    records.extend([select(0), here]);
+                }
                 records.extend(&look);
                 records.extend(go((rng.below(128) << 1) | receive, cntl));
                 records.extend(&look);
@@ -609,9 +737,6 @@ fn answers(edition: Edition, rng: &mut Rng) -> Vec<Vec<u64>> {
     answers
 }
 
-/// What is written to SELECT between two bytes: nothing, and away and back.
-const BETWEEN: [&[u64]; 2] = [&[], &[0, I2C_PINS]];
-
 fn go(addr: u64, cntl: u64) -> [Fields; 3] {
     [(0, addr), (1, cntl), (2, 1)].map(|(register, value)| Fields::write(I2C, 0, register, value))
 }
@@ -621,7 +746,9 @@ fn go(addr: u64, cntl: u64) -> [Fields; 3] {
 pub fn selects(mut rng: Rng, _: Size) -> Requests {
     let all = (0..9u64).flat_map(|pair| (0..256u64).map(move |bits| bits << (4 * pair)));
     Box::new(all.map(move |bits| {
-        let beside = rng.pick(&[0, 0b11_1111 << 10, I2C_PINS]);
+        let of_pins = |edition: &Edition| !edition.rules().port;
+        let of_pins: Vec<Edition> = EDITIONS.into_iter().filter(of_pins).collect();
+        let beside = rng.pick(&[0, 0b11_1111 << 10, 0xF << 28]);
         let (encoder, pwm) = (rng.below(10) as u8, rng.below(20) as u8);
         let touched = rng.pick(&[
             Fields::write(ENCODER, encoder, 0, 1),
@@ -634,6 +761,69 @@ pub fn selects(mut rng: Rng, _: Size) -> Requests {
             touched,
             Fields::read(SELECT, 0, 0),
         ];
-        lent_somewhere(rng.pick(&EDITIONS), &records, &mut rng)
+        lent_somewhere(rng.pick(&of_pins), &records, &mut rng)
+    }))
+}
+
+/// Every byte for a port, and numbers above one; then a record for each of what may have become routed, and for the
+/// other port.
+pub fn port_selects(mut rng: Rng, _: Size) -> Requests {
+    let touches = [
+        Fields::write(ENCODER, 0, 0, 1),
+        Fields::pins(0, 1),
+        Fields::write(PWM, 0, 1, 1),
+        Fields::write(PWM, 1, 1, 1),
+        Fields::write(PWM, 2, 1, 1),
+        Fields::write(I2C, 0, 0, 9),
+        Fields::answer(1),
+    ];
+    let bytes = 0..=255u64;
+    let above =
+        (256..=520).chain((8..64).flat_map(|bit| [0, 0x24, 0xBF].map(|low| low | 1 << bit)));
+    let above = above.chain([u64::MAX]);
+    let of_bytes = bytes.flat_map(move |byte| touches.map(|touched| (byte, touched)));
+    let all = of_bytes.chain(above.map(move |value| (value, touches[0])));
+    let of_ports = EDITIONS.into_iter().filter(|edition| edition.rules().port);
+    let all = of_ports.flat_map(move |edition| {
+        let all = all.clone();
+        banks(edition).flat_map(move |bank| all.clone().map(move |one| (edition, bank, one)))
+    });
+    Box::new(all.map(move |(edition, bank, (value, touched))| {
+        let select = Fields::read(SELECT, 0, 0);
+        let mut records = in_bank(
+            bank,
+            &[Fields::write(SELECT, 0, 0, value), select, touched, select],
+        );
+        records.push(select.in_bank(1 - bank));
+        records.push(touched.in_bank(1 - bank));
+        lent_roomy(log_of(edition, &records), &mut rng)
+    }))
+}
+
+/// From every byte to every other: an encoder that has seen its pins, and PWM channels that run.
+pub fn ports_rerouted(mut rng: Rng, size: Size) -> Requests {
+    let free = |byte: &u64| byte & 1 << 6 == 0;
+    let pairs = (0..256u64).flat_map(|from| (0..256u64).map(move |to| (from, to)));
+    let pairs = pairs.filter(move |(from, to)| free(from) && free(to));
+    let step = size.of(11, 1) as usize;
+    Box::new(pairs.step_by(step).map(move |(from, to)| {
+        let select = |value| Fields::write(SELECT, 0, 0, value);
+        let mut records = vec![select(0xBC), Fields::write(ENCODER, 0, 0, 1)];
+        records
+            .extend((0..3).map(|channel| Fields::write(PWM, channel, 1, 1 + u64::from(channel))));
+        records.extend([
+            select(from | 1 << 5),
+            Fields::pins(0, 0),
+            Fields::ticks(5),
+            select(from),
+            Fields::ticks(9),
+            select(to),
+            Fields::ticks(12),
+            select(to | 1 << 5),
+            Fields::pins(0, 1),
+            Fields::pins(0, 3),
+        ]);
+        records.extend(reads_of_a_bank(Edition::Four));
+        lent_somewhere(Edition::Four, &records, &mut rng)
     }))
 }

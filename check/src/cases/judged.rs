@@ -1,11 +1,11 @@
 //! Transcripts for the judge: right ones, negated ones, and what is neither.
 
 use super::by_chance::short_log;
-use super::in_order::{log_of, ALL_ENCODERS};
-use super::{banks, in_bank, judged, Requests, Size};
+use super::in_order::log_of;
+use super::{banks, every_encoder, in_bank, judged, Requests, Size};
 use crate::exchange::{Request, PLACES};
 use crate::generate::{change_bytes, generate, near_miss_trailer, Rng, Settings};
-use crate::reference::edition::EDITIONS;
+use crate::reference::edition::{Edition, EDITIONS};
 use crate::reference::encoder::{CNTR, STAT};
 use crate::reference::judge::{negated, transcript};
 use crate::reference::log::{build, each_reading, LOG_MAX, READING_LEN, RECORDS_MAX, TRAILER_LEN};
@@ -111,33 +111,52 @@ pub fn full_logs(mut rng: Rng, size: Size) -> Requests {
     }))
 }
 
-/// Counts of either sign between other readings, of one bank and of the last too; a count of 0, which is its
-/// own negative, alone; and a log without a count.
-fn small_logs(rng: &mut Rng) -> [Vec<u8>; 4] {
-    let count = Fields::read(ENCODER, 3, CNTR);
-    let counts = [
-        Fields::write(SELECT, 0, 0, ALL_ENCODERS),
-        Fields::write(ENCODER, 3, 0, 1),
+/// Counts of either sign between other readings, of one bank and of each edition's last too; a count of 0, which
+/// is its own negative, alone; and a log without a count.
+fn small_logs(rng: &mut Rng) -> Vec<Vec<u8>> {
+    let edition = rng.pick(&EDITIONS);
+    let encoder = last_encoder(edition);
+    let count = Fields::read(ENCODER, encoder, CNTR);
+    let route = Fields::write(SELECT, 0, 0, every_encoder(edition));
+    let zero = [route, count, count];
+    let none = [
+        Fields::read(SELECT, 0, 0),
+        Fields::read(ENCODER, encoder, STAT),
+    ];
+    let of_two_banks = EDITIONS
+        .into_iter()
+        .filter(|&edition| banks(edition).len() > 1);
+    let both = of_two_banks.map(|edition| {
+        let of_bank = |bank| in_bank(bank, &counts(edition));
+        let records: Vec<Fields> = banks(edition).flat_map(of_bank).collect();
+        log_of(edition, &records)
+    });
+    let mut logs: Vec<Vec<u8>> = both.collect();
+    logs.extend([&counts(edition)[..], &zero, &none].map(|records| log_of(edition, records)));
+    logs
+}
+
+fn last_encoder(edition: Edition) -> u8 {
+    edition.rules().encoders as u8 - 1
+}
+
+fn counts(edition: Edition) -> [Fields; 12] {
+    let encoder = last_encoder(edition);
+    let count = Fields::read(ENCODER, encoder, CNTR);
+    [
+        Fields::write(SELECT, 0, 0, every_encoder(edition)),
+        Fields::write(ENCODER, encoder, 0, 1),
         Fields::read(SELECT, 0, 0),
         count,
-        Fields::pins(3, 0),
-        Fields::pins(3, 2),
+        Fields::pins(encoder, 0),
+        Fields::pins(encoder, 2),
         count,
-        Fields::read(ENCODER, 3, STAT),
-        Fields::pins(3, 0),
-        Fields::pins(3, 1),
+        Fields::read(ENCODER, encoder, STAT),
+        Fields::pins(encoder, 0),
+        Fields::pins(encoder, 1),
         count,
         Fields::read(I2C, 0, 3),
-    ];
-    let zero = [Fields::write(SELECT, 0, 0, ALL_ENCODERS), count, count];
-    let none = [Fields::read(SELECT, 0, 0), Fields::read(ENCODER, 3, STAT)];
-    let edition = rng.pick(&EDITIONS);
-    let last = *EDITIONS.last().expect("there are editions");
-    let both: Vec<Fields> = banks(last)
-        .flat_map(|bank| in_bank(bank, &counts))
-        .collect();
-    let [counts, zero, none] = [&counts[..], &zero, &none].map(|records| log_of(edition, records));
-    [counts, log_of(last, &both), zero, none]
+    ]
 }
 
 /// Right and negated transcripts, with each of their bits turned over, and with none.

@@ -64,7 +64,7 @@ pub fn near_miss_trailer(log: &[u8], rng: &mut Rng) -> Vec<u8> {
             ..good
         },
         1 => Trailer {
-            edition: rng.pick(&[0, 2, 3, 0x100, 0x101, 0xFFFF]),
+            edition: rng.pick(&[0, 1, 2, 3, 4, 5, 0x100, 0x101, 0xFFFF]),
             ..good
         },
         2 => Trailer {

@@ -1,16 +1,17 @@
-//! Records that are refused: refusals 7 to 11 and 16 in every clause.
+//! Records that are refused: refusals 7 to 11, 16 and 18 in every clause.
 
-use super::maker::{select_value, set_pair, settled, Functions, Maker, I2C_PINS, SPI_PINS};
+use super::maker::Maker;
+use super::routing::{functions, select_value, set_pair, settled, Functions, I2C_PINS, SPI_PINS};
 use crate::reference::edition::{Edition, Rules};
-use crate::reference::encoder::{CNFG_MAX, PINS_MAX};
+use crate::reference::encoder::{CNFG_MAX, MODE, PINS_MAX};
 use crate::reference::i2c::{
     State, ACK, ADDR_MAX, ANSWER_MAX, CNTL_MAX, FAILURE, START, STOP, TX_RX,
 };
 use crate::reference::pwm::CS_MAX;
 use crate::reference::record::{Fields, ENCODER, I2C, PWM, READ, SELECT, TICKS_MAX, WRITE};
 use crate::reference::refusal::{
-    Refusal, GO_NOT_ALLOWED, NOT_ROUTED, RECORD_UNKNOWN, SELECT_NOT_ALLOWED, STOP_AFTER_ACK,
-    VALUE_OUT_OF_RANGE,
+    Refusal, GO_NOT_ALLOWED, MODE_GONE, NOT_ROUTED, RECORD_UNKNOWN, SELECT_NOT_ALLOWED,
+    STOP_AFTER_ACK, VALUE_OUT_OF_RANGE,
 };
 
 /// The most records that a fault takes, with those that lead up to it.
@@ -96,11 +97,11 @@ pub const FAULTS: &[Fault] = &[
         access(maker, SELECT, channel, 0)
     }),
     fault!("no such encoder", RECORD_UNKNOWN, |maker| {
-        let channel = byte_above(maker, 9);
+        let channel = channel_above(maker, maker.rules().encoders);
         access(maker, ENCODER, channel, 0)
     }),
     fault!("no such PWM channel", RECORD_UNKNOWN, |maker| {
-        let channel = byte_above(maker, 19);
+        let channel = channel_above(maker, maker.rules().pwms);
         access(maker, PWM, channel, 0)
     }),
     fault!("no such I2C channel", RECORD_UNKNOWN, |maker| {
@@ -172,7 +173,8 @@ pub const FAULTS: &[Fault] = &[
         ..Fields::pins(0, 0)
     }),
     fault!("pins of no encoder", RECORD_UNKNOWN, |maker| {
-        Fields::pins(byte_above(maker, 9), 0)
+        let channel = channel_above(maker, maker.rules().encoders);
+        Fields::pins(channel, 0)
     }),
     fault!("pins of another register", RECORD_UNKNOWN, |maker| Fields {
         register: byte_above(maker, 0),
@@ -190,10 +192,33 @@ pub const FAULTS: &[Fault] = &[
         register: byte_above(maker, 0),
         ..Fields::ticks(1)
     }),
-    fault!("SELECT above 40 bits", VALUE_OUT_OF_RANGE, |maker| {
-        let above = maker.rng.above((1 << 40) - 1);
-        Fields::write(SELECT, 0, 0, above)
-    }),
+    fault!(
+        "SELECT above 40 bits",
+        VALUE_OUT_OF_RANGE,
+        |rules| !rules.port,
+        |maker| {
+            let above = maker.rng.above((1 << 40) - 1);
+            Fields::write(SELECT, 0, 0, above)
+        },
+    ),
+    fault!(
+        "SELECT above a byte",
+        VALUE_OUT_OF_RANGE,
+        |rules| rules.port,
+        |maker| {
+            let above = maker.rng.above(255);
+            Fields::write(SELECT, 0, 0, above)
+        },
+    ),
+    fault!(
+        "SELECT with the reserved bit",
+        VALUE_OUT_OF_RANGE,
+        |rules| rules.port,
+        |maker| {
+            let byte = maker.rng.below(256) | 1 << 6;
+            Fields::write(SELECT, 0, 0, byte)
+        },
+    ),
     fault!("encoder CNFG above 31", VALUE_OUT_OF_RANGE, |maker| {
         let channel = some_encoder(maker);
         Fields::write(ENCODER, channel, 0, maker.rng.above(CNFG_MAX))
@@ -272,11 +297,12 @@ pub const FAULTS: &[Fault] = &[
     fault!(
         "a 3 where neither SPI nor I2C is",
         SELECT_NOT_ALLOWED,
+        of_pins,
         |maker| {
             let pin = maker
                 .rng
                 .pick(&[0, 1, 2, 3, 4, 8, 9, 10, 11, 12, 13, 16, 17, 18, 19]);
-            let mut functions = maker.functions();
+            let mut functions = functions(maker.bank().select.value);
             // A partner left alone would be another fault.
             if functions[pin] == 2 {
                 functions[pin ^ 1] = 0;
@@ -285,32 +311,47 @@ pub const FAULTS: &[Fault] = &[
             select(functions)
         },
     ),
-    fault!("SPI pins not together", SELECT_NOT_ALLOWED, |maker| {
-        let some = maker.rng.between(1, 6);
-        let mut functions = without_serial(maker);
-        set_pair(&mut functions, 2, [0, 0]);
-        set_pair(&mut functions, 3, [0, 0]);
-        for (index, pin) in SPI_PINS.enumerate() {
-            functions[pin] = if some >> index & 1 == 1 { 3 } else { 0 };
+    fault!(
+        "SPI pins not together",
+        SELECT_NOT_ALLOWED,
+        of_pins,
+        |maker| {
+            let some = maker.rng.between(1, 6);
+            let mut functions = without_serial(maker);
+            set_pair(&mut functions, 2, [0, 0]);
+            set_pair(&mut functions, 3, [0, 0]);
+            for (index, pin) in SPI_PINS.enumerate() {
+                functions[pin] = if some >> index & 1 == 1 { 3 } else { 0 };
+            }
+            select(functions)
         }
-        select(functions)
-    }),
-    fault!("I2C pins not together", SELECT_NOT_ALLOWED, |maker| {
-        let mut functions = without_serial(maker);
-        let other = maker.rng.below(2) as u8;
-        set_pair(&mut functions, 7, maker.rng.pick(&[[3, other], [other, 3]]));
-        select(functions)
-    }),
-    fault!("half an encoder pair", SELECT_NOT_ALLOWED, |maker| {
-        let mut functions = without_serial(maker);
-        let (pair, other) = (maker.rng.below(10) as u8, maker.rng.below(2) as u8);
-        set_pair(
-            &mut functions,
-            pair,
-            maker.rng.pick(&[[2, other], [other, 2]]),
-        );
-        select(functions)
-    }),
+    ),
+    fault!(
+        "I2C pins not together",
+        SELECT_NOT_ALLOWED,
+        of_pins,
+        |maker| {
+            let mut functions = without_serial(maker);
+            let other = maker.rng.below(2) as u8;
+            set_pair(&mut functions, 7, maker.rng.pick(&[[3, other], [other, 3]]));
+            select(functions)
+        }
+    ),
+    fault!(
+        "half an encoder pair",
+        SELECT_NOT_ALLOWED,
+        of_pins,
+        |maker| {
+            let mut functions = without_serial(maker);
+            let (pair, other) = (maker.rng.below(10) as u8, maker.rng.below(2) as u8);
+            set_pair(
+                &mut functions,
+                pair,
+                maker.rng.pick(&[[2, other], [other, 2]]),
+            );
+            select(functions)
+        }
+    ),
     fault!("GO: START without a byte", GO_NOT_ALLOWED, |maker| {
         let cntl = START | maker.rng.pick(&[0, STOP, ACK, STOP | ACK]);
         go_in_some_state(maker, cntl)
@@ -358,6 +399,16 @@ pub const FAULTS: &[Fault] = &[
         },
     ),
     fault!(
+        "MODE 1 where there is only quadrature",
+        MODE_GONE,
+        |rules| rules.quadrature_only,
+        |maker| {
+            let channel = maker.routed_encoder();
+            let cnfg = maker.rng.below(CNFG_MAX + 1) | u64::from(MODE);
+            Fields::write(ENCODER, channel, 0, cnfg)
+        },
+    ),
+    fault!(
         "GO: STOP alone after an acknowledged byte",
         STOP_AFTER_ACK,
         |maker| {
@@ -371,6 +422,16 @@ pub const FAULTS: &[Fault] = &[
         },
     ),
 ];
+
+/// SELECT has a combination of pin functions.
+fn of_pins(rules: Rules) -> bool {
+    !rules.port
+}
+
+/// Where there are so many.
+fn channel_above(maker: &mut Maker, channels: usize) -> u8 {
+    byte_above(maker, channels as u8 - 1)
+}
 
 fn byte_above(maker: &mut Maker, most: u8) -> u8 {
     let any = maker.rng.between(u64::from(most) + 1, 255) as u8;
@@ -405,7 +466,7 @@ fn select(functions: Functions) -> Fields {
 }
 
 fn without_serial(maker: &Maker) -> Functions {
-    let mut functions = maker.functions();
+    let mut functions = functions(maker.bank().select.value);
     functions[SPI_PINS].fill(0);
     functions[I2C_PINS].fill(0);
     settled(functions)

@@ -1,20 +1,14 @@
 //! The log in the making, and the device that follows it so that what comes next fits.
 
+use super::routing::Routing;
 use super::scenes;
 use super::Rng;
-use crate::reference::bank::{Bank, ENCODERS, PWMS};
+use crate::reference::bank::Bank;
 use crate::reference::edition::{Edition, Rules};
 use crate::reference::i2c::{State, ANSWER_MAX, START, STOP, TX_RX};
 use crate::reference::log::{build, LOG_MAX, RECORDS_MAX};
 use crate::reference::record::{Fields, ENCODER, I2C, PWM, RECORD_LEN, SELECT, TICKS, TICKS_MAX};
 use crate::reference::Device;
-use std::ops::Range;
-
-const PINS: usize = 20;
-/// What each of the twenty pins is used for, 0 to 3 as in SELECT.
-pub type Functions = [u8; PINS];
-pub const SPI_PINS: Range<usize> = 5..8;
-pub const I2C_PINS: Range<usize> = 14..16;
 
 pub struct Maker {
     pub rng: Rng,
@@ -130,12 +124,12 @@ impl Maker {
         self.put(Fields::ticks(value.min(self.most_ticks)));
     }
 
-    pub fn functions(&self) -> Functions {
-        std::array::from_fn(|pin| (self.bank().select.0 >> (2 * pin)) as u8 & 3)
+    pub fn routing(&self) -> Routing {
+        Routing::of(self.bank().select.value, self.rules())
     }
 
-    pub fn write_functions(&mut self, functions: Functions) {
-        self.write(SELECT, 0, 0, select_value(functions));
+    pub fn route(&mut self, routing: Routing) {
+        self.write(SELECT, 0, 0, routing.select());
     }
 
     pub fn encoder_routed(&self, channel: u8) -> bool {
@@ -148,81 +142,85 @@ impl Maker {
 
     /// An encoder that is routed, if need be only now.
     pub fn routed_encoder(&mut self) -> u8 {
-        let routed = channels(ENCODERS, |channel| self.encoder_routed(channel));
+        let all = self.rules().encoders;
+        let routed = channels(all, |channel| self.encoder_routed(channel));
         if !routed.is_empty() {
             return self.rng.pick(&routed);
         }
-        let channel = self.rng.below(ENCODERS as u64) as u8;
+        let channel = self.rng.below(all as u64) as u8;
         self.route_encoder(channel);
         channel
     }
 
     pub fn route_encoder(&mut self, channel: u8) {
         if !self.encoder_routed(channel) {
-            let mut functions = self.functions();
-            set_pair(&mut functions, channel, [2, 2]);
-            self.write_functions(settled(functions));
+            let mut routing = self.routing();
+            routing.with_encoder(channel);
+            self.route(routing);
         }
     }
 
     /// An encoder that is not routed, if need be only now.
     pub fn unrouted_encoder(&mut self) -> u8 {
-        let unrouted = channels(ENCODERS, |channel| !self.encoder_routed(channel));
+        let all = self.rules().encoders;
+        let unrouted = channels(all, |channel| !self.encoder_routed(channel));
         if !unrouted.is_empty() {
             return self.rng.pick(&unrouted);
         }
-        let channel = self.rng.below(ENCODERS as u64) as u8;
-        let mut functions = self.functions();
-        set_pair(&mut functions, channel, [0, 1]);
-        self.write_functions(settled(functions));
+        let channel = self.rng.below(all as u64) as u8;
+        let mut routing = self.routing();
+        routing.without_encoder(channel, &mut self.rng);
+        self.route(routing);
         channel
     }
 
     /// A PWM channel that is routed, if need be only now.
     pub fn routed_pwm(&mut self) -> u8 {
-        let routed = channels(PWMS, |channel| self.pwm_routed(channel));
+        let all = self.rules().pwms;
+        let routed = channels(all, |channel| self.pwm_routed(channel));
         if !routed.is_empty() {
             return self.rng.pick(&routed);
         }
-        let channel = self.rng.below(PWMS as u64) as u8;
+        let channel = self.rng.below(all as u64) as u8;
         self.route_pwm(channel);
         channel
     }
 
     pub fn route_pwm(&mut self, channel: u8) {
         if !self.pwm_routed(channel) {
-            let mut functions = self.functions();
-            functions[usize::from(channel)] = 1;
-            self.write_functions(settled(functions));
+            let mut routing = self.routing();
+            routing.with_pwm(channel);
+            self.route(routing);
         }
     }
 
     /// A PWM channel that is not routed, if need be only now.
     pub fn unrouted_pwm(&mut self) -> u8 {
-        let unrouted = channels(PWMS, |channel| !self.pwm_routed(channel));
+        let all = self.rules().pwms;
+        let unrouted = channels(all, |channel| !self.pwm_routed(channel));
         if !unrouted.is_empty() {
             return self.rng.pick(&unrouted);
         }
-        let channel = self.rng.below(PWMS as u64) as u8;
-        let mut functions = self.functions();
-        functions[usize::from(channel)] = 0;
-        self.write_functions(settled(functions));
+        let channel = self.rng.below(all as u64) as u8;
+        let mut routing = self.routing();
+        routing.without_pwm(channel);
+        self.route(routing);
         channel
     }
 
     pub fn route_i2c(&mut self) {
         if !self.bank().select.i2c_routed() {
-            let mut functions = self.functions();
-            functions[I2C_PINS].fill(3);
-            self.write_functions(settled(functions));
+            let mut routing = self.routing();
+            routing.with_i2c();
+            self.route(routing);
         }
     }
 
     pub fn unroute_i2c(&mut self) {
         if self.bank().select.i2c_routed() {
-            let mut functions = self.functions();
-            functions[I2C_PINS].fill(0);
-            self.write_functions(settled(functions));
+            let mut routing = self.routing();
+            routing.without_i2c();
+            self.route(routing);
         }
     }
 
@@ -257,12 +255,18 @@ impl Maker {
 
     /// A record that would be applied now.
     pub fn good_record(&mut self) -> Fields {
+        let Rules { encoders, pwms, .. } = self.rules();
+        let some = |rng: &mut Rng, channels: usize| rng.below(channels as u64) as u8;
         match self.rng.below(5) {
-            0 => Fields::read(ENCODER, self.rng.below(10) as u8, self.rng.below(3) as u8),
-            1 => Fields::read(PWM, self.rng.below(20) as u8, self.rng.below(6) as u8),
+            0 => Fields::read(
+                ENCODER,
+                some(&mut self.rng, encoders),
+                self.rng.below(3) as u8,
+            ),
+            1 => Fields::read(PWM, some(&mut self.rng, pwms), self.rng.below(6) as u8),
             2 => Fields::ticks(self.rng.between(0, self.most_ticks)),
             3 => Fields::pins(self.routed_encoder(), self.rng.below(4)),
-            _ => Fields::write(SELECT, 0, 0, self.bank().select.0),
+            _ => Fields::write(SELECT, 0, 0, self.bank().select.value),
         }
     }
 }
@@ -271,34 +275,4 @@ fn channels(number: usize, wanted: impl Fn(u8) -> bool) -> Vec<u8> {
     (0..number as u8)
         .filter(|&channel| wanted(channel))
         .collect()
-}
-
-pub fn select_value(functions: Functions) -> u64 {
-    let bits = |(pin, &function): (usize, &u8)| u64::from(function) << (2 * pin);
-    functions.iter().enumerate().map(bits).sum()
-}
-
-pub fn set_pair(functions: &mut Functions, pair: u8, pins: [u8; 2]) {
-    let first = 2 * usize::from(pair);
-    functions[first..first + 2].copy_from_slice(&pins);
-}
-
-/// The nearest arrangement that is allowed: groups broken up become plain pins, half pairs PWM.
-pub fn settled(mut functions: Functions) -> Functions {
-    let whole = |group: Range<usize>| functions[group].iter().all(|&function| function == 3);
-    let (spi, i2c) = (whole(SPI_PINS), whole(I2C_PINS));
-    for (pin, function) in functions.iter_mut().enumerate() {
-        let held = spi && SPI_PINS.contains(&pin) || i2c && I2C_PINS.contains(&pin);
-        if *function == 3 && !held {
-            *function = 0;
-        }
-    }
-    for pair in functions.chunks_mut(2) {
-        if pair.contains(&2) && pair != [2, 2] {
-            pair.iter_mut()
-                .filter(|pin| **pin == 2)
-                .for_each(|pin| *pin = 1);
-        }
-    }
-    functions
 }

@@ -1,8 +1,8 @@
 //! Short scenes that a log is made of. Each leaves only records that are applied.
 
-use super::maker::{set_pair, settled, Functions, Maker, I2C_PINS, SPI_PINS};
+use super::maker::Maker;
+use super::routing::Routing;
 use super::wait;
-use crate::reference::bank::ENCODERS;
 use crate::reference::clock::divider;
 use crate::reference::encoder::{A, B, CERR, COVR, EN, MODE, RST};
 use crate::reference::i2c::{I2c, State, FAILURE};
@@ -49,9 +49,9 @@ pub fn play(maker: &mut Maker) {
         return maker.rng.pick(&TWINS)(maker);
     }
     maker.choose_bank();
-    if maker.bank().select.0 == 0 && maker.rng.chance(70) {
-        let functions = random_functions(maker);
-        return maker.write_functions(settled(functions));
+    if maker.bank().select.value == 0 && maker.rng.chance(70) {
+        let routing = Routing::random(maker.rules(), &mut maker.rng);
+        return maker.route(routing);
     }
     let sum = SCENES.iter().map(|(weight, _)| weight).sum();
     let mut left = maker.rng.below(sum);
@@ -64,48 +64,17 @@ pub fn play(maker: &mut Maker) {
 }
 
 fn reroute(maker: &mut Maker) {
-    let functions = match maker.rng.below(6) {
-        0 => maker.functions(),
-        1 => [0; 20],
-        2 | 3 => {
-            let mut functions = maker.functions();
-            let pair = maker.rng.below(ENCODERS as u64) as u8;
-            set_pair(&mut functions, pair, random_pair(maker));
-            functions
-        }
-        _ => random_functions(maker),
-    };
-    maker.write_functions(settled(functions));
+    let mut routing = maker.routing();
+    match maker.rng.below(6) {
+        0 => {}
+        1 => routing = Routing::nothing(maker.rules()),
+        2 | 3 => routing.change(&mut maker.rng),
+        _ => routing = Routing::random(maker.rules(), &mut maker.rng),
+    }
+    maker.route(routing);
     if maker.rng.chance(50) {
         maker.read(SELECT, 0, 0);
     }
-}
-
-fn random_pair(maker: &mut Maker) -> [u8; 2] {
-    maker.rng.pick(&[
-        [0, 0],
-        [0, 1],
-        [1, 0],
-        [1, 1],
-        [1, 1],
-        [2, 2],
-        [2, 2],
-        [2, 2],
-    ])
-}
-
-fn random_functions(maker: &mut Maker) -> Functions {
-    let mut functions = [0; 20];
-    for pair in 0..ENCODERS as u8 {
-        set_pair(&mut functions, pair, random_pair(maker));
-    }
-    if maker.rng.chance(30) {
-        functions[SPI_PINS].fill(3);
-    }
-    if maker.rng.chance(60) {
-        functions[I2C_PINS].fill(3);
-    }
-    functions
 }
 
 fn encoder_settings(maker: &mut Maker) {
@@ -116,6 +85,11 @@ fn encoder_settings(maker: &mut Maker) {
         1 => now ^ maker.rng.pick(&[EN, RST, MODE]),
         2 => now ^ maker.rng.pick(&[CERR, COVR, CERR | COVR]),
         _ => maker.rng.below(32) as u8,
+    };
+    let cnfg = if maker.rules().quadrature_only {
+        cnfg & !MODE
+    } else {
+        cnfg
     };
     maker.write(ENCODER, channel, CNFG, cnfg.into());
     if maker.rng.chance(30) {
@@ -143,11 +117,20 @@ fn encoder_walk(maker: &mut Maker) {
     maker.read(ENCODER, channel, STAT);
 }
 
+/// MODE 1, by chance, where it is allowed.
+fn some_mode(maker: &mut Maker, percent: u64) -> u8 {
+    if !maker.rules().quadrature_only && maker.rng.chance(percent) {
+        MODE
+    } else {
+        0
+    }
+}
+
 /// Mostly.
 fn let_it_count(maker: &mut Maker, channel: u8) {
     let now = maker.bank().encoders[usize::from(channel)].cnfg;
     if now & EN == 0 && maker.rng.chance(85) {
-        let mode = if maker.rng.chance(30) { MODE } else { 0 };
+        let mode = some_mode(maker, 30);
         maker.write(ENCODER, channel, CNFG, (now & !MODE | EN | mode).into());
     }
     if now & RST != 0 && maker.rng.chance(70) {
@@ -174,7 +157,7 @@ fn walk_on(maker: &mut Maker, channel: u8, forward_percent: u64) {
 /// The count starts at 0 and crosses it again and again, with the overflow flags cleared or kept.
 fn encoder_around_zero(maker: &mut Maker) {
     let channel = maker.routed_encoder();
-    let mode = if maker.rng.chance(35) { MODE } else { 0 };
+    let mode = some_mode(maker, 35);
     maker.write(ENCODER, channel, CNFG, (EN | RST | mode).into());
     if maker.rng.chance(50) {
         maker.put(Fields::pins(channel, 0));
@@ -216,16 +199,12 @@ fn counted_step(maker: &mut Maker, channel: u8, forward: bool) {
 /// Routed away and back: the next pins are the first again, and nothing else is lost.
 fn encoder_route_again(maker: &mut Maker) {
     let channel = maker.routed_encoder();
-    let before = maker.functions();
+    let before = maker.routing();
     let mut away = before;
-    set_pair(
-        &mut away,
-        channel,
-        maker.rng.pick(&[[0, 0], [1, 0], [1, 1]]),
-    );
-    maker.write_functions(settled(away));
+    away.without_encoder(channel, &mut maker.rng);
+    maker.route(away);
     maker.read(ENCODER, channel, CNTR);
-    maker.write_functions(before);
+    maker.route(before);
     for _ in 0..maker.rng.between(1, 4) {
         walk_on(maker, channel, 50);
     }
@@ -338,12 +317,12 @@ fn pwm_top_below_counter(maker: &mut Maker) {
 /// Routed away while the clock runs on: the channel stands still, then goes on where it was.
 fn pwm_route_again(maker: &mut Maker) {
     let channel = maker.routed_pwm();
-    let before = maker.functions();
+    let before = maker.routing();
     let mut away = before;
-    away[usize::from(channel)] = 0;
-    maker.write_functions(away);
+    away.without_pwm(channel);
+    maker.route(away);
     wait_and_look(maker, channel);
-    maker.write_functions(before);
+    maker.route(before);
     wait_and_look(maker, channel);
 }
 
@@ -454,15 +433,16 @@ fn twin_talks(maker: &mut Maker) {
 }
 
 fn read_anything(maker: &mut Maker) {
+    let rules = maker.rules();
     for _ in 0..maker.rng.between(1, 10) {
-        let (block, channels, registers): (u8, u64, &[u8]) = match maker.rng.below(10) {
+        let (block, channels, registers): (u8, usize, &[u8]) = match maker.rng.below(10) {
             0 => (SELECT, 1, &[0]),
-            1 if maker.rules().slaves_answer => (I2C, 1, &[0, 1, 3, FAILURE]),
+            1 if rules.slaves_answer => (I2C, 1, &[0, 1, 3, FAILURE]),
             1 => (I2C, 1, &[0, 1, 3]),
-            2..=4 => (ENCODER, 10, &[0, 1, 2]),
-            _ => (PWM, 20, &[0, 1, 2, 3, 4, 5]),
+            2..=4 => (ENCODER, rules.encoders, &[0, 1, 2]),
+            _ => (PWM, rules.pwms, &[0, 1, 2, 3, 4, 5]),
         };
-        let channel = maker.rng.below(channels) as u8;
+        let channel = maker.rng.below(channels as u64) as u8;
         let register = maker.rng.pick(registers);
         maker.read(block, channel, register);
     }

@@ -5,9 +5,7 @@ use super::encoder::{self, Encoder};
 use super::i2c::{I2c, ANSWER_MAX};
 use super::pwm::Pwm;
 use super::record::{ENCODER, I2C, PWM, SELECT};
-use super::refusal::{
-    check, Refusal, NOT_ROUTED, RECORD_UNKNOWN, SELECT_NOT_ALLOWED, VALUE_OUT_OF_RANGE,
-};
+use super::refusal::{check, Refusal, NOT_ROUTED, RECORD_UNKNOWN, VALUE_OUT_OF_RANGE};
 use super::select::Select;
 
 pub const ENCODERS: usize = 10;
@@ -28,14 +26,17 @@ impl Bank {
         channel: usize,
         register: u8,
         value: u64,
+        rules: Rules,
     ) -> Result<(), Refusal> {
         match block {
-            SELECT if (channel, register) == (0, 0) => self.write_select(value),
+            SELECT if (channel, register) == (0, 0) => self.write_select(value, rules),
             ENCODER => {
+                check(channel < rules.encoders, RECORD_UNKNOWN)?;
                 let encoder = self.encoders.get_mut(channel).ok_or(RECORD_UNKNOWN)?;
-                encoder.write(register, value, self.select.encoder_routed(channel))
+                encoder.write(register, value, self.select.encoder_routed(channel), rules)
             }
             PWM => {
+                check(channel < rules.pwms, RECORD_UNKNOWN)?;
                 let pwm = self.pwms.get_mut(channel).ok_or(RECORD_UNKNOWN)?;
                 pwm.write(register, value, self.select.pwm_routed(channel))
             }
@@ -44,10 +45,12 @@ impl Bank {
         }
     }
 
-    fn write_select(&mut self, value: u64) -> Result<(), Refusal> {
-        check(Select::fits(value), VALUE_OUT_OF_RANGE)?;
-        let select = Select(value);
-        check(select.allowed(), SELECT_NOT_ALLOWED)?;
+    fn write_select(&mut self, value: u64, rules: Rules) -> Result<(), Refusal> {
+        let select = if rules.port {
+            Select::of_port(value)?
+        } else {
+            Select::of_bank(value)?
+        };
         for channel in select.newly_routed_encoders(self.select) {
             self.encoders[channel].forget_pins();
         }
@@ -59,16 +62,17 @@ impl Bank {
     #[inline(always)]
     pub fn read(&self, block: u8, channel: usize, register: u8, rules: Rules) -> Option<u64> {
         match block {
-            SELECT if (channel, register) == (0, 0) => Some(self.select.0),
-            ENCODER => self.encoders.get(channel)?.read(register),
-            PWM => self.pwms.get(channel)?.read(register),
+            SELECT if (channel, register) == (0, 0) => Some(self.select.value),
+            ENCODER if channel < rules.encoders => self.encoders.get(channel)?.read(register),
+            PWM if channel < rules.pwms => self.pwms.get(channel)?.read(register),
             I2C if channel == 0 => self.i2c.read(register, rules.slaves_answer),
             _ => None,
         }
     }
 
     #[inline(always)]
-    pub fn pins(&mut self, channel: usize, value: u64) -> Result<(), Refusal> {
+    pub fn pins(&mut self, channel: usize, value: u64, rules: Rules) -> Result<(), Refusal> {
+        check(channel < rules.encoders, RECORD_UNKNOWN)?;
         let encoder = self.encoders.get_mut(channel).ok_or(RECORD_UNKNOWN)?;
         check(value <= encoder::PINS_MAX, VALUE_OUT_OF_RANGE)?;
         check(self.select.encoder_routed(channel), NOT_ROUTED)?;

@@ -1,12 +1,17 @@
 //! The edition of a log: which boxes it is from, and what is otherwise there.
 
+use super::bank::{ENCODERS, PWMS};
+
 #[derive(Debug, Clone, Copy, PartialEq, Eq, PartialOrd, Ord)]
 pub enum Edition {
     One = 1,
     Two = 2,
+    Three = 3,
+    /// Of a myRIO, whose banks are its expansion ports.
+    Four = 4,
 }
 
-pub const EDITIONS: [Edition; 2] = [Edition::One, Edition::Two];
+pub const EDITIONS: [Edition; 4] = [Edition::One, Edition::Two, Edition::Three, Edition::Four];
 
 /// What an edition decides.
 #[derive(Debug, Clone, Copy, PartialEq, Eq)]
@@ -17,6 +22,13 @@ pub struct Rules {
     pub bank_b: bool,
     /// Whether a log tells how a slave answers, and reads whether it failed to.
     pub slaves_answer: bool,
+    /// Whether an encoder's MODE stays 0.
+    pub quadrature_only: bool,
+    /// Whether SELECT is one byte for a port, instead of two bits for each pin.
+    pub port: bool,
+    /// How many channels a bank has.
+    pub encoders: usize,
+    pub pwms: usize,
 }
 
 impl Edition {
@@ -31,10 +43,15 @@ impl Edition {
     }
 
     pub fn rules(self) -> Rules {
+        let port = self == Edition::Four;
         Rules {
             runs_on: self != Edition::One,
             bank_b: self != Edition::One,
             slaves_answer: self != Edition::One,
+            quadrature_only: self == Edition::Three,
+            port,
+            encoders: if port { 1 } else { ENCODERS },
+            pwms: if port { 3 } else { PWMS },
         }
     }
 }

@@ -1,6 +1,7 @@
 //! One encoder channel.
 
-use super::refusal::{check, Refusal, NOT_ROUTED, RECORD_UNKNOWN, VALUE_OUT_OF_RANGE};
+use super::edition::Rules;
+use super::refusal::{check, Refusal, MODE_GONE, NOT_ROUTED, RECORD_UNKNOWN, VALUE_OUT_OF_RANGE};
 
 pub const CNFG: u8 = 0;
 pub const STAT: u8 = 1;
@@ -54,11 +55,19 @@ impl Encoder {
         }
     }
 
-    pub fn write(&mut self, register: u8, value: u64, routed: bool) -> Result<(), Refusal> {
+    pub fn write(
+        &mut self,
+        register: u8,
+        value: u64,
+        routed: bool,
+        rules: Rules,
+    ) -> Result<(), Refusal> {
         check(register == CNFG, RECORD_UNKNOWN)?;
         check(value <= CNFG_MAX, VALUE_OUT_OF_RANGE)?;
         check(routed, NOT_ROUTED)?;
-        self.write_cnfg(value as u8);
+        let cnfg = value as u8;
+        check(cnfg & MODE == 0 || !rules.quadrature_only, MODE_GONE)?;
+        self.write_cnfg(cnfg);
         Ok(())
     }
 

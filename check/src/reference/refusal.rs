@@ -38,6 +38,8 @@ pub const REGISTERS_OUT_OF_RANGE: Refusal = 15;
 pub const STOP_AFTER_ACK: Refusal = 16;
 /// A transcript has another length than the readings.
 pub const TRANSCRIPT_LENGTH_WRONG: Refusal = 17;
+/// An encoder's CNFG with MODE 1, where there is only quadrature.
+pub const MODE_GONE: Refusal = 18;
 
 /// A text that is none of the dump's.
 pub const NO_DUMP: Refusal = 20;

@@ -5,8 +5,8 @@ use rivandoze_check::exchange::{Answer, Call, Request, HEADER_LEN, PLACES};
 use rivandoze_check::packed;
 use rivandoze_check::reference::log::{records, Log, RECORDS_MAX};
 use rivandoze_check::reference::record::{Fields, TICKS, TICKS_MAX};
-use rivandoze_check::reference::{Device, EDITIONS};
-use std::collections::BTreeSet;
+use rivandoze_check::reference::{Device, Edition, EDITIONS};
+use std::collections::{BTreeMap, BTreeSet};
 
 fn short() -> impl Iterator<Item = Request> {
     FAMILIES
@@ -35,8 +35,8 @@ fn every_refusal_and_every_place_comes_up() {
         let refusal = word(&request) & 0xFF;
         met.insert((request.call as u64, refusal, request.place as u64));
     }
-    let replayed = (0..=11).chain([16]);
-    let judged = (0..=5).chain(7..=11).chain([16, 17]);
+    let replayed = (0..=11).chain([16, 18]);
+    let judged = (0..=5).chain(7..=11).chain([16, 17, 18]);
     let all = replayed.map(|refusal| (Call::Replay, refusal));
     for (call, refusal) in all.chain(judged.map(|refusal| (Call::Judge, refusal))) {
         for place in PLACES {
@@ -75,7 +75,7 @@ fn full_logs_are_among_the_made_ones() {
     assert!(full.count() > 60);
 }
 
-/// At the end of many a log every register is read: SELECT, 3 of 10 encoders, 6 of 20 PWMs, 3 of I2C or 4,
+/// At the end of many a log every register is read: SELECT, 3 of each encoder, 6 of each PWM, 3 of I2C or 4,
 /// of each bank.
 #[test]
 fn end_states_are_read_whole() {
@@ -83,10 +83,10 @@ fn end_states_are_read_whole() {
     for request in FAMILIES[0].requests(5, Size::Short) {
         let log = Log::open(&request.log).expect("a made log");
         let all: Vec<_> = log.records().collect();
-        let registers = if log.edition.rules().bank_b {
-            2 * 155
-        } else {
-            154
+        let registers = match log.edition {
+            Edition::One => 1 + 3 * 10 + 6 * 20 + 3,
+            Edition::Two | Edition::Three => 2 * (1 + 3 * 10 + 6 * 20 + 4),
+            Edition::Four => 2 * (1 + 3 + 6 * 3 + 4),
         };
         let end = &all[all.len().saturating_sub(registers)..];
         let read: BTreeSet<_> = end.iter().filter(|record| record[0] == 2).collect();
@@ -96,7 +96,7 @@ fn end_states_are_read_whole() {
         }
     }
     assert!(
-        whole > 1_500 && whole_and_full > 20,
+        whole > 1_400 && whole_and_full > 20,
         "{whole}, {whole_and_full}"
     );
 }
@@ -107,7 +107,7 @@ fn family(name: &str) -> &'static Family {
 }
 
 /// Behind ten records for each bank, which are applied, stands one with a bit turned over: each bit of 26
-/// records for one bank of edition 1, and of 28 for two of edition 2.
+/// records for one bank of edition 1, and of 28 for two of each other.
 #[test]
 fn every_bit_of_a_record_is_turned() {
     let bits = family("every bit of a record");
@@ -118,10 +118,10 @@ fn every_bit_of_a_record_is_turned() {
         logs += 1;
         refusals.insert(word & 0xFF);
     }
-    assert_eq!(logs, (26 + 2 * 28) * 128);
-    assert_eq!(refusals, BTreeSet::from([0, 7, 8, 9, 10]));
+    assert_eq!(logs, (26 + 2 * 28 * (EDITIONS.len() - 1)) * 128);
+    assert_eq!(refusals, BTreeSet::from([0, 7, 8, 9, 10, 18]));
     let short = bits.requests(1, Size::Short).count();
-    assert!((3_600..4_200).contains(&short), "{short}");
+    assert!((3_600..5_200).contains(&short), "{short}");
 }
 
 /// With each of these records every byte that might be its bank, and no other fault.
@@ -139,9 +139,62 @@ fn every_byte_for_the_bank_is_tried() {
         answers.insert((log.edition, record[0], record[4], refused_there));
     }
     // Four kinds, or five; of these ticks have no bank 1. Nothing is answered in two ways.
-    assert_eq!(answers.len(), (4 + 5) * 256);
+    let later = EDITIONS.len() - 1;
+    assert_eq!(answers.len(), (4 + 5 * later) * 256);
     let applied = answers.iter().filter(|(.., refused)| !refused).count();
-    assert_eq!(applied, 4 + (4 * 2 + 1));
+    assert_eq!(applied, 4 + (4 * 2 + 1) * later);
+}
+
+/// Those that go through everything of a kind have room for all readings, so that refusal 6 hides none of it.
+#[test]
+fn what_goes_through_everything_has_room() {
+    let of_room = ["outputs of every length", "every truncation"];
+    let in_order = FAMILIES.iter().filter(|family| !family.by_chance);
+    for family in in_order.filter(|family| !of_room.contains(&family.name)) {
+        let mut requests = family.requests(2, Size::Short);
+        assert!(
+            requests.all(|request| word(&request) & 0xFF != 6),
+            "{}",
+            family.name
+        );
+    }
+}
+
+/// What there is to write, to read, to move and to answer, and nothing else, is applied: by edition and
+/// whether its block is routed, how many of each kind, in all banks.
+#[test]
+fn every_register_is_tried() {
+    let mut applied = BTreeMap::new();
+    for request in family("every register").requests(1, Size::Full) {
+        let log = Log::open(&request.log).expect("a made log");
+        let all: Vec<Fields> = log.records().map(Fields::from_bytes).collect();
+        let at = all.len() - 3;
+        if word(&request) >> 8 > at as u64 {
+            let routed = at > 0;
+            let kind = all[at].kind;
+            *applied.entry((log.edition, routed, kind)).or_insert(0) += 1;
+        }
+    }
+    for edition in EDITIONS {
+        let banks = if edition == Edition::One { 1 } else { 2 };
+        let failure = usize::from(edition != Edition::One);
+        let (encoders, pwms) = if edition == Edition::Four {
+            (1, 3)
+        } else {
+            (10, 20)
+        };
+        let reads = encoders * 3 + pwms * 6 + 3 + failure;
+        let mut of_kind = |routed, kind| applied.remove(&(edition, routed, kind)).unwrap_or(0);
+        // SELECT and ticks have no block that is routed, and reads need none.
+        assert_eq!(of_kind(true, 1), banks * (encoders + pwms * 4 + 3));
+        assert_eq!(of_kind(false, 1), banks * 2, "{edition:?}");
+        assert_eq!(of_kind(true, 2), banks * reads, "{edition:?}");
+        assert_eq!(of_kind(false, 2), banks * (2 + reads), "{edition:?}");
+        assert_eq!(of_kind(true, 3), banks * encoders, "{edition:?}");
+        assert_eq!(of_kind(false, 4), banks * 2, "{edition:?}");
+        assert_eq!(of_kind(true, 5), banks * failure, "{edition:?}");
+    }
+    assert_eq!(applied, BTreeMap::new());
 }
 
 #[test]

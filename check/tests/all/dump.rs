@@ -337,7 +337,7 @@ fn every_answer_and_every_place_comes_up() {
             spares.insert((call, request.out_len as i64 - needed as i64));
         }
     }
-    let dumped = (0..=11).chain([16]).map(|refusal| ("dump", refusal));
+    let dumped = (0..=11).chain([16, 18]).map(|refusal| ("dump", refusal));
     let read = [0, 6, 20].map(|refusal| ("dump-read", refusal));
     assert_eq!(refusals, dumped.chain(read).collect());
     assert_eq!(places.len(), 2 * PLACES.len());

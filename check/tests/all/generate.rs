@@ -5,6 +5,7 @@ use rivandoze_check::generate::{
     change_bytes, flip_bits, generate, generate_with, near_miss_trailer, splice, truncate, Rng,
     Settings, FAULTS,
 };
+use rivandoze_check::reference::edition::Rules;
 use rivandoze_check::reference::encoder::{DIR, EN, ERR, MODE, UOERR, UOVR};
 use rivandoze_check::reference::i2c;
 use rivandoze_check::reference::log::{records, Log, LOG_MAX};
@@ -79,7 +80,7 @@ fn each_fault_is_refused_as_it_says() {
         }
     }
     let refusals: BTreeSet<u8> = FAULTS.iter().map(|fault| fault.refusal).collect();
-    assert_eq!(refusals, BTreeSet::from([7, 8, 9, 10, 11, 16]));
+    assert_eq!(refusals, BTreeSet::from([7, 8, 9, 10, 11, 16, 18]));
 }
 
 #[test]
@@ -134,7 +135,6 @@ fn waits_keep_to_their_longest() {
 /// What was met on the way through some logs.
 #[derive(Default)]
 struct Met {
-    editions: BTreeSet<Edition>,
     neighbours_in_both: usize,
     stat: u8,
     stat_in_mode_1: u8,
@@ -152,7 +152,9 @@ struct Met {
     wrapped_at_max: BTreeSet<u16>,
     cmp_edges: BTreeSet<&'static str>,
     pins_seen_again: bool,
-    spi: bool,
+    /// What SPI's pins are used for: all or nothing, or of a port its two bits.
+    spi: BTreeSet<u64>,
+    selects: BTreeSet<u64>,
 }
 
 /// How a wait goes on from a counter above MAX that runs on: where it ends, and whether it passes CMP above
@@ -184,7 +186,7 @@ fn run_on(old: &Pwm, new: &Pwm, ticks: u64) -> Option<Run> {
 }
 
 impl Met {
-    fn record(&mut self, runs_on: bool, before: &Bank, fields: Fields, after: &Bank) {
+    fn record(&mut self, rules: Rules, before: &Bank, fields: Fields, after: &Bank) {
         if fields.kind == 2 {
             self.reads
                 .insert((fields.block, fields.channel, fields.register));
@@ -198,7 +200,7 @@ impl Met {
         }
         for (old, new) in before.pwms.iter().zip(&after.pwms) {
             self.pwm_cnfg.insert(new.cnfg);
-            if runs_on && fields.kind == TICKS {
+            if rules.runs_on && fields.kind == TICKS {
                 self.runs.extend(run_on(old, new, fields.value));
             }
             if new.cnfg & 4 == 0 {
@@ -235,22 +237,29 @@ impl Met {
             self.pins_seen_again |= pairs
                 .into_iter()
                 .any(|(old, new)| old.seen.is_some() && new.seen.is_none());
-            self.spi |= after.select.0 >> 10 & 0x3F == 0x3F;
+            let value = after.select.value;
+            self.spi.insert(if rules.port {
+                value & 3
+            } else {
+                u64::from(value >> 10 & 0x3F == 0x3F)
+            });
+            self.selects.insert(value);
         }
     }
 }
 
-/// What was met in a bank, by logs of the editions that have it.
-fn met(seeds: u64, bank: u8) -> Met {
+/// What was met in a bank, by logs of an edition.
+fn met(edition: Edition, bank: u8) -> Met {
     let mut met = Met::default();
-    for seed in 0..seeds {
-        let log = generate(seed, &settings(0));
+    let settings = Settings {
+        edition: Some(edition),
+        ..settings(0)
+    };
+    for seed in 0..300 {
+        let log = generate(seed, &settings);
         let log = Log::open(&log).expect("a made log has a good trailer");
-        let mut device = Device::fresh(log.edition);
+        let mut device = Device::fresh(edition);
         let mut last = 0;
-        if bank == 0 || device.rules.bank_b {
-            met.editions.insert(log.edition);
-        }
         for bytes in log.records() {
             let fields = Fields::from_bytes(bytes);
             let before = device.banks[usize::from(bank)].clone();
@@ -259,7 +268,7 @@ fn met(seeds: u64, bank: u8) -> Met {
             last = fields.bank;
             if fields.bank == bank || fields.kind == TICKS {
                 let after = &device.banks[usize::from(bank)];
-                met.record(device.rules.runs_on, &before, fields, after);
+                met.record(device.rules, &before, fields, after);
             }
         }
     }
@@ -268,18 +277,23 @@ fn met(seeds: u64, bank: u8) -> Met {
 
 #[test]
 fn deep_states_are_reached() {
-    let editions = EDITIONS.into_iter();
-    assert_reaches_deep(met(300, 0), editions.clone().collect());
-    let of_two_banks = editions.filter(|edition| edition.rules().bank_b);
-    let bank_b = met(500, 1);
-    assert!(bank_b.neighbours_in_both > 1_000);
-    assert_reaches_deep(bank_b, of_two_banks.collect());
+    for edition in EDITIONS {
+        let banks = if edition == Edition::One { 0..1 } else { 0..2 };
+        for bank in banks {
+            let met = met(edition, bank);
+            println!("edition {edition:?}, bank {bank}");
+            assert_eq!(met.neighbours_in_both > 1_000, edition != Edition::One);
+            assert_reaches_deep(met, edition);
+        }
+    }
 }
 
-fn assert_reaches_deep(met: Met, editions: BTreeSet<Edition>) {
-    assert_eq!(met.editions, editions);
+fn assert_reaches_deep(met: Met, edition: Edition) {
+    let rules = edition.rules();
     assert_eq!(met.stat, DIR | ERR | UOVR | UOERR);
-    assert_eq!(met.stat_in_mode_1 & (UOVR | UOERR), UOVR | UOERR);
+    let in_mode_1 = met.stat_in_mode_1 & (UOVR | UOERR);
+    let gone = edition == Edition::Three;
+    assert_eq!(in_mode_1, if gone { 0 } else { UOVR | UOERR });
     for count in -20..20 {
         assert!(met.counts.contains(&count), "count {count}");
     }
@@ -287,16 +301,28 @@ fn assert_reaches_deep(met: Met, editions: BTreeSet<Edition>) {
     assert_eq!(met.pwm_cnfg.into_iter().collect::<Vec<u8>>(), [0, 1, 4, 5]);
     // All that is allowed after a byte that was not acknowledged, and in RX idle after one that was.
     assert_eq!(met.i2c.len(), 36 + 10);
-    assert_eq!(met.reads.len(), 1 + 10 * 3 + 20 * 6 + 4);
+    let of_i2c = if rules.slaves_answer { 4 } else { 3 };
+    let reads = 1 + rules.encoders * 3 + rules.pwms * 6 + of_i2c;
+    assert_eq!(met.reads.len(), reads);
     // Each of the 18 that are allowed somewhere, without an answer and with each.
-    assert_eq!(met.answers.len(), 18 * 5);
-    assert!(met.answers_replaced > 20, "{}", met.answers_replaced);
+    let answers = if rules.slaves_answer { 5 } else { 1 };
+    assert!(
+        met.answers.len() >= 18 * answers - 1,
+        "{}",
+        met.answers.len()
+    );
+    assert_eq!(met.answers_replaced > 20, rules.slaves_answer);
     assert!(met.counter_above_top);
-    assert_eq!(met.runs.len(), 7, "{:?}", met.runs);
+    let runs = if rules.runs_on { 7 } else { 0 };
+    assert_eq!(met.runs.len(), runs, "{:?}", met.runs);
     assert!(met.wrapped_at_max.contains(&0) || met.wrapped_at_max.contains(&1));
     assert_eq!(met.cmp_edges.len(), 5);
     assert!(met.pins_seen_again);
-    assert!(met.spi);
+    assert_eq!(met.spi.len(), if rules.port { 4 } else { 2 });
+    if rules.port {
+        // Of 128 bytes without the reserved bit.
+        assert!(met.selects.len() > 90, "{}", met.selects.len());
+    }
 }
 
 #[test]

@@ -48,7 +48,7 @@ fn each_bit(refusal: u8, before: &str, good: &str, bits: impl Iterator<Item = us
 }
 
 /// The editions that there are.
-const EDITIONS: [u16; 2] = [1, 2];
+const EDITIONS: [u16; 4] = [1, 2, 3, 4];
 
 const KIND: usize = 0;
 const BLOCK: usize = 8;
@@ -420,7 +420,7 @@ fn refusal_10_leaves_routing_as_it_was() {
     let run = run_text(text);
     assert_eq!((run.refusal, run.applied), (10, 5));
     assert_eq!(run.readings, [1]);
-    assert_eq!(run.bank.select.0, 0xA);
+    assert_eq!(run.bank.select.value, 0xA);
     assert_eq!(run.bank.encoders[0].seen, Some(1));
 }
 
@@ -596,6 +596,36 @@ fn record_then_value_then_routing_then_the_rest() {
     // A tick record that names a block and is out of range.
     let wrong_twice = format!("raw 04 01 {}", "00 ".repeat(13) + "80");
     assert_eq!(refusal(&wrong_twice), 7);
+}
+
+/// In edition 3 each CNFG of an encoder, routed and not: 8, 9, then 18, which is by MODE alone. The other editions
+/// know no 18.
+#[test]
+fn refusal_18_by_every_cnfg() {
+    for edition in [1, 2, 3] {
+        for cnfg in 0..=64_u64 {
+            let write = format!("write encoder 9 cnfg {cnfg}\n");
+            let refusal = |before: &str| {
+                let run = run_text(&in_edition(edition, &format!("{before}{write}")));
+                assert_eq!(
+                    run.applied,
+                    (before.lines().count() as u64) + u64::from(run.refusal == 0)
+                );
+                if run.refusal != 0 {
+                    assert_eq!(run.bank.encoders[9].cnfg, 0);
+                }
+                run.refusal
+            };
+            let gone = edition == 3 && cnfg & 4 != 0;
+            let [unrouted, routed] = match cnfg {
+                32.. => [8, 8],
+                _ if gone => [9, 18],
+                _ => [9, 0],
+            };
+            assert_eq!(refusal(""), unrouted, "edition {edition} CNFG {cnfg}");
+            assert_eq!(refusal(ROUTED), routed, "edition {edition} CNFG {cnfg}");
+        }
+    }
 }
 
 #[test]

@@ -10,7 +10,7 @@ use rivandoze_check::reference::replay;
 /// What holds for every byte string, whatever is in it.
 fn assert_consistent(log: &[u8]) {
     let outcome = run(log);
-    assert!(outcome.refusal <= 11 || outcome.refusal == 16);
+    assert!(outcome.refusal <= 11 || [16, 18].contains(&outcome.refusal));
     match Log::open(log) {
         Err(refusal) => {
             assert!((1..=5).contains(&refusal));

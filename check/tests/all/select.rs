@@ -1,5 +1,5 @@
 use rivandoze_check::generate::Rng;
-use rivandoze_check::reference::select::Select;
+use rivandoze_check::reference::select::{Functions, Select};
 
 fn function(select: u64, pin: usize) -> u64 {
     (select >> (2 * pin)) & 3
@@ -18,11 +18,15 @@ fn allowed(select: u64) -> bool {
 }
 
 fn assert_same(value: u64) {
-    let select = Select(value);
-    assert_eq!(select.allowed(), allowed(value), "{value:#x}");
-    if !select.allowed() {
-        return;
-    }
+    assert_eq!(Functions(value).allowed(), allowed(value), "{value:#x}");
+    let select = match Select::of_bank(value) {
+        Ok(select) => select,
+        Err(refusal) => {
+            assert_eq!((refusal, allowed(value)), (10, false), "{value:#x}");
+            return;
+        }
+    };
+    assert_eq!((select, select.value), (Select::routed_by(value), value));
     for i in 0..10 {
         let pair = function(value, 2 * i) == 2 && function(value, 2 * i + 1) == 2;
         assert_eq!(select.encoder_routed(i), pair, "encoder {i} in {value:#x}");
@@ -38,7 +42,7 @@ fn assert_same(value: u64) {
         "{value:#x}"
     );
     let encoders: Vec<usize> = (0..10).filter(|&i| select.encoder_routed(i)).collect();
-    let newly = select.newly_routed_encoders(Select(0));
+    let newly = select.newly_routed_encoders(Select::default());
     assert_eq!(newly.collect::<Vec<_>>(), encoders);
     assert_eq!(select.newly_routed_encoders(select).count(), 0);
     let serial = function(value, 14) == 3 && function(value, 15) == 3;
@@ -71,7 +75,7 @@ fn allowed_values_and_all_that_are_one_bit_away() {
         if rng.chance(50) {
             value |= 0xF000_0000;
         }
-        assert!(Select(value).allowed(), "{value:#x}");
+        assert!(Functions(value).allowed(), "{value:#x}");
         assert_same(value);
         for bit in 0..40 {
             assert_same(value ^ 1 << bit);
@@ -85,4 +89,42 @@ fn any_value() {
     for _ in 0..100_000 {
         assert_same(rng.draw() >> 24);
     }
+}
+
+/// Bit 7 I2C, 6 reserved, 5 the encoder, 4 to 2 PWM 2 to 0, 1 and 0 SPI, which is free; nothing above.
+#[test]
+fn every_byte_of_a_port() {
+    for value in 0..=255_u64 {
+        let bit = |place: u32| value >> place & 1 == 1;
+        let select = match Select::of_port(value) {
+            Ok(select) => select,
+            Err(refusal) => {
+                assert_eq!((refusal, bit(6)), (8, true), "{value:#x}");
+                continue;
+            }
+        };
+        assert!(!bit(6), "{value:#x}");
+        assert_eq!(select.value, value);
+        assert_eq!(select.i2c_routed(), bit(7), "{value:#x}");
+        assert_eq!(select.encoder_routed(0), bit(5), "{value:#x}");
+        assert!((1..10).all(|channel| !select.encoder_routed(channel)));
+        for channel in 0..3 {
+            assert_eq!(
+                select.pwm_routed(channel),
+                bit(2 + channel as u32),
+                "{value:#x}"
+            );
+        }
+        assert!((3..20).all(|channel| !select.pwm_routed(channel)));
+        let newly = select.newly_routed_encoders(Select::default());
+        assert_eq!(
+            newly.collect::<Vec<_>>(),
+            if bit(5) { vec![0] } else { vec![] }
+        );
+    }
+    for bit in 8..64 {
+        assert_eq!(Select::of_port(1 << bit), Err(8));
+        assert_eq!(Select::of_port(1 << bit | 0x20), Err(8));
+    }
+    assert_eq!(Select::of_port(u64::MAX), Err(8));
 }

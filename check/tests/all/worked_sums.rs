@@ -157,6 +157,94 @@ fn a_counter_above_max() {
     assert_eq!(by(2, 65_535), [0, 1]);
 }
 
+/// MODE 1 counts in editions 1 and 2 as it did, and is 18 in edition 3, which is otherwise edition 2: bank B, kind
+/// 5, and a counter that runs on.
+#[test]
+fn step_and_direction_goes() {
+    let text = "write select 0xA
+        write encoder 0 cnfg 5
+        pins encoder 0 0
+        pins encoder 0 1
+        read encoder 0 cntr";
+    assert_eq!(readings(text), [1]);
+    assert_eq!(readings(&in_edition(2, text)), [1]);
+    let gone = run_text(&in_edition(3, text));
+    assert_eq!((gone.refusal, gone.applied), (18, 1));
+    let unrouted = run_text(&in_edition(3, "write encoder 0 cnfg 5"));
+    assert_eq!((unrouted.refusal, unrouted.applied), (9, 0));
+    let too_much = run_text(&in_edition(3, "write encoder 0 cnfg 36"));
+    assert_eq!((too_much.refusal, too_much.applied), (8, 0));
+    let rest = "bank 1 write select 0xF0000001
+        bank 1 answer i2c 0
+        bank 1 write i2c cntl 3
+        bank 1 write i2c go 1
+        bank 1 read i2c failure
+        bank 1 write pwm 0 cs 1
+        bank 1 write pwm 0 cnfg 4
+        bank 1 write pwm 0 max 9
+        ticks 5
+        bank 1 write pwm 0 max 3
+        ticks 1
+        bank 1 read pwm 0 cntr";
+    assert_eq!(readings(&in_edition(3, rest)), [1, 6]);
+}
+
+/// A myRIO's port: bit 5 its encoder, bits 4 to 2 its PWM channels, bit 7 I2C, which count, tick and talk as in
+/// edition 2; higher channels are 7, bit 6 and numbers above 255 are 8, and nothing is 10.
+#[test]
+fn a_port_of_a_myrio() {
+    let text = "write select 0x20
+        write encoder 0 cnfg 1
+        pins encoder 0 0
+        pins encoder 0 1
+        read encoder 0 cntr
+        bank 1 write select 0x24
+        bank 1 write encoder 0 cnfg 5
+        bank 1 pins encoder 0 0
+        bank 1 pins encoder 0 3
+        bank 1 read encoder 0 cntr
+        bank 1 write pwm 0 cs 1
+        bank 1 write pwm 0 cnfg 4
+        bank 1 write pwm 0 max 9
+        ticks 5
+        bank 1 write pwm 0 max 3
+        ticks 1
+        bank 1 read pwm 0 cntr
+        write select 0x80
+        answer i2c 1
+        write i2c cntl 3
+        write i2c go 1
+        read i2c failure
+        read i2c state
+        read select";
+    let wanted = [1, 4_294_967_295, 6, 2, 1, 0x80];
+    assert_eq!(readings(&in_edition(4, text)), wanted);
+    let refusal = |text: &str| run_text(&in_edition(4, text)).refusal;
+    let routed = "write select 0xBC\n";
+    for (line, wanted) in [
+        ("write encoder 1 cnfg 1", 7),
+        ("read encoder 1 cntr", 7),
+        ("pins encoder 1 0", 7),
+        ("write pwm 3 cs 1", 7),
+        ("read pwm 3 cs", 7),
+        ("write pwm 2 cs 1", 0),
+        ("pins encoder 0 4", 8),
+        ("write select 0x40", 8),
+        ("write select 0x100", 8),
+        ("write select 0xAAAAAAAAAA", 8),
+        ("bank 2 write select 0", 7),
+        ("bank 1 ticks 1", 7),
+        ("bank 1 write encoder 0 cnfg 1", 9),
+        ("bank 1 pins encoder 0 1", 9),
+    ] {
+        assert_eq!(refusal(&format!("{routed}{line}")), wanted, "{line}");
+    }
+    for spi in 0..4 {
+        assert_eq!(refusal(&format!("write select {spi}")), 0);
+    }
+    assert_eq!(run_text(&in_edition(5, "")).refusal, 4);
+}
+
 #[test]
 fn log_lengths() {
     assert_eq!(run(&[0; 7]).refusal, 2);
