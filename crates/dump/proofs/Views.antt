@@ -22,8 +22,9 @@ use Rattle.wire.specs.declared.Decoded.the-variants.{Names}
 use Rattle.wire.proofs.Formed.{Formed, formed, bank-formed}
 use Rattle.banks.specs.declared.State.{State}
 use Rattle.banks.specs.State.{fresh}
-use Rattle.replay.specs.Replay.{turnOf, played}
-use Rattle.replay.proofs.Replaying.{by-turn}
+use Rattle.replay.specs.Replay.{played}
+use Rattle.walk.specs.Turn.{turnOf}
+use Rattle.walk.proofs.Replaying.{by-turn}
 use Rattle.vcd.specs.declared.Step.{Step}
 use Rattle.vcd.specs.declared.Step.the-variants.{Wait, Pins as Seen}
 use Rattle.vcd.specs.Dump.{GoodStep, Good}

@@ -19,8 +19,8 @@ use Rattle.bank.specs.declared.Bank.{Bank}
 use Rattle.bank.specs.Bank.{withI2c, turnOf}
 use Rattle.banks.specs.declared.State.{State}
 use Rattle.banks.specs.State.{bankAt, withBank}
-use Rattle.replay.specs.Replay as replay
-use Rattle.replay.proofs.Replaying.{by-turn, lift-refused}
+use Rattle.walk.specs.Turn as walk
+use Rattle.walk.proofs.Replaying.{by-turn, lift-refused}
 
 abbrev Ten : Turn Bank ℕ → Type 0
 Ten t = t ≡ refused 10 → ⊥
@@ -64,7 +64,7 @@ no-ten b (ReadEncoder i g) = λ h. false≢true (sym (ap applies h))
 no-ten b (ReadPwm i g) = λ h. false≢true (sym (ap applies h))
 no-ten b (ReadI2c g) = λ h. false≢true (sym (ap applies h))
 
-pub record-no-ten : (s : State) (bytes : List ℕ) (k : ℕ) → replay.turnOf (editionOf 4) s bytes ≡ refused k → k ≡ 10 → ⊥
+pub record-no-ten : (s : State) (bytes : List ℕ) (k : ℕ) → walk.turnOf (editionOf 4) s bytes ≡ refused k → k ≡ 10 → ⊥
 record-no-ten s bytes k =
     by-turn (editionOf 4) s bytes (λ t. t ≡ refused k → k ≡ 10 → ⊥)
     (λ n e h ten. let same : n ≡ k = cc in omega (arith, refused-by (editionOf 4) bytes n e))

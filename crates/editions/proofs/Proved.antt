@@ -27,8 +27,9 @@ use Rattle.bank.specs.Bank as bank
 use Rattle.banks.specs.declared.State.{State}
 use Rattle.banks.specs.State.{fresh, bankAt, withBank, bothBanks}
 use Rattle.banks.proofs.Whole.{Both, holds-first}
-use Rattle.replay.specs.Replay.{decodedTurn, turnOf, played, playOf, replayFrom, replayOf}
-use Rattle.replay.proofs.Replaying.{by-turn, ticking, banking, both-kept, lift-applies}
+use Rattle.replay.specs.Replay.{played, playOf, replayFrom, replayOf}
+use Rattle.walk.specs.Turn.{decodedTurn, turnOf}
+use Rattle.walk.proofs.Replaying.{by-turn, ticking, banking, both-kept, lift-applies}
 use Rattle.editions.specs.Facts.{AsTwo, InQuadrature, ModeSums, NeverTen, PortSums}
 use Rattle.editions.proofs.Four.{record-no-ten}
 use Rattle.editions.proofs.Three.{as-two, Moded, moded-first, moded-next}

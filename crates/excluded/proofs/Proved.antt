@@ -18,7 +18,8 @@ use Rattle.wire.specs.declared.Trailer.{Trailer}
 use Rattle.wire.specs.declared.Trailer.the-variants.{Found, Refused}
 use Rattle.wire.specs.Record.{decodeOf, namedOf, writeOf, readOf, pinsOf, ticksOf, answerOf}
 use Rattle.bank.specs.Bank as bank
-use Rattle.replay.specs.Replay.{turnOf, played, playOf, replayFrom, replayOf, written}
+use Rattle.replay.specs.Replay.{played, playOf, replayFrom, replayOf}
+use Rattle.walk.specs.Turn.{turnOf, written}
 use Rattle.replay.specs.Facts.{whole}
 use Rattle.rate.specs.Rate.{pwm, spi, Answer, Outcome, outside, loose, none, pair}
 use Rattle.rate.specs.declared.Rule.{Rule}

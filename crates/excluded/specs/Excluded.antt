@@ -20,7 +20,8 @@ use Rattle.wire.specs.declared.Trailer.{Trailer}
 use Rattle.wire.specs.declared.Trailer.the-variants.{Found, Refused}
 use Rattle.banks.specs.declared.State.{State}
 use Rattle.banks.specs.State.{fresh, bothBanks}
-use Rattle.replay.specs.Replay.{turnOf, played, replayOf, written}
+use Rattle.replay.specs.Replay.{played, replayOf}
+use Rattle.walk.specs.Turn.{turnOf, written}
 use Rattle.rate.specs.Rate.{pwm, spi, Answer}
 use Rattle.rate.specs.declared.Found.the-variants.{Pair}
 

@@ -16,7 +16,8 @@ use Rattle.wire.specs.Bytes.{leOf, leBytes, asks, readsIn}
 use Rattle.wire.specs.Trailer.{recordsOf, editionIn}
 use Rattle.banks.specs.declared.State.{State}
 use Rattle.banks.specs.State.{fresh}
-use Rattle.replay.specs.Replay.{turnOf, played}
+use Rattle.replay.specs.Replay.{played}
+use Rattle.walk.specs.Turn.{turnOf}
 use Rattle.replay.proofs.Numbers as numbers
 use Rattle.judge.specs.Judge.{neg, ofCntr, negating, plain, opposite, courseOf}
 use Rattle.judge.proofs.Numbers.{said, said-small, reading-at}

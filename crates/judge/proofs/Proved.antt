@@ -16,7 +16,8 @@ use Rattle.wire.specs.declared.Trailer.the-variants.{Found, Refused}
 use Rattle.wire.proofs.Laws.{one-to-five}
 use Rattle.banks.specs.declared.State.{State}
 use Rattle.banks.specs.State.{fresh}
-use Rattle.replay.specs.Replay.{turnOf, replayFrom, replayOf}
+use Rattle.replay.specs.Replay.{replayFrom, replayOf}
+use Rattle.walk.specs.Turn.{turnOf}
 use Rattle.replay.proofs.Numbers.{Number, run-number}
 use Rattle.replay.proofs.Notes.{same-records, same-edition}
 use Rattle.replay.proofs.Proved as replayed

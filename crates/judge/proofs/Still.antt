@@ -18,7 +18,8 @@ use Rattle.wire.specs.Bytes.{leOf, leBytes, readsIn}
 use Rattle.wire.specs.Trailer.{recordsOf, editionIn}
 use Rattle.banks.specs.declared.State.{State}
 use Rattle.banks.specs.State.{fresh}
-use Rattle.replay.specs.Replay.{turnOf, played}
+use Rattle.replay.specs.Replay.{played}
+use Rattle.walk.specs.Turn.{turnOf}
 use Rattle.judge.specs.Judge.{neg, ofCntr, negating, transcriptBy, plain, opposite, courseOf}
 use Rattle.judge.specs.Facts.{Still}
 use Rattle.judge.proofs.Numbers.{said, said-small}

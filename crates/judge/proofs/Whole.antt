@@ -19,7 +19,8 @@ use Rattle.wire.specs.declared.Trailer.{Trailer}
 use Rattle.wire.specs.declared.Trailer.the-variants.{Found, Refused as NoTrailer}
 use Rattle.wire.proofs.Laws.{found-within}
 use Rattle.banks.specs.declared.State.{State}
-use Rattle.replay.specs.Replay.{played, replayFrom, replayOf, written}
+use Rattle.replay.specs.Replay.{played, replayFrom, replayOf}
+use Rattle.walk.specs.Turn.{written}
 use Rattle.replay.proofs.Numbers.{accepted}
 use Rattle.replay.proofs.Proved as replayed
 use Rattle.judge.specs.declared.Verdict.the-variants.{Refused}

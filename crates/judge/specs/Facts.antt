@@ -11,7 +11,8 @@ use Rattle.fold.specs.Turn.{reads}
 use Rattle.fold.specs.Run.{going, stopped}
 use Rattle.wire.specs.Bytes.{leOf}
 use Rattle.wire.specs.Trailer.{recordsOf, editionIn}
-use Rattle.replay.specs.Replay.{turnOf, played}
+use Rattle.replay.specs.Replay.{played}
+use Rattle.walk.specs.Turn.{turnOf}
 use Rattle.judge.specs.Judge.{ofCntr, negating, transcriptBy, plain, opposite, courseOf, Judged}
 
 -- "all counts 0 or 2^31, or no such reading": what each record reads that reads an encoder's CNTR

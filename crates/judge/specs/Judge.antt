@@ -13,7 +13,8 @@ use Rattle.wire.specs.Bytes.{byte, leBytes}
 use Rattle.wire.specs.Trailer.{recordsOf, editionIn}
 use Rattle.banks.specs.declared.State.{State}
 use Rattle.banks.specs.State.{fresh}
-use Rattle.replay.specs.Replay.{turnOf, replayOf}
+use Rattle.replay.specs.Replay.{replayOf}
+use Rattle.walk.specs.Turn.{turnOf}
 use Rattle.judge.specs.declared.Verdict.{Verdict}
 use Rattle.judge.specs.declared.Verdict.the-variants.{Same, Negated, Both, Different, Refused}
 

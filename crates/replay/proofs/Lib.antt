@@ -1,6 +1,3 @@
-mod Ways
-pub mod Replaying
-mod Reached
 mod Laid
 mod Whole
 pub mod Numbers

@@ -2,7 +2,8 @@
 ghost use mathlib.Core.Path.{_≡_};
 ghost use Prim.Native.Nat.{_/_, _<_};
 ghost use lib.ListN.{length};
-ghost use Rattle.replay.specs.Replay.{replayOf, written};
+ghost use Rattle.replay.specs.Replay.{replayOf};
+ghost use Rattle.walk.specs.Turn.{written};
 ghost use Rattle.rivandoze.specs.Refusal.{refusalIn};
 ghost use Rattle.rivandoze.specs.ReplayWord.{appliedIn, ReplayWord};
 use fold::Stop;

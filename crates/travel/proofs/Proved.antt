@@ -38,7 +38,8 @@ use Rattle.banks.specs.declared.State.{State}
 use Rattle.banks.specs.State.{fresh, bankAt}
 use Rattle.banks.proofs.Whole.{Both}
 use Rattle.bank.specs.Bank as bank
-use Rattle.replay.specs.Replay.{turnOf, played, playOf, replayFrom, replayOf, written}
+use Rattle.replay.specs.Replay.{played, playOf, replayFrom, replayOf}
+use Rattle.walk.specs.Turn.{turnOf, written}
 use Rattle.replay.proofs.Proved.{replayed}
 use Rattle.travel.specs.Stretch.{names, pinsIn, undisturbed, encoderAfter}
 use Rattle.travel.specs.Demand.{Demand, DemandOfRuns}
