@@ -1,0 +1,14 @@
+-- `rivandoze::shrinks::rvz_shrink` meets its contract. Assumes nothing.
+use borrow.Author.Needs.{needs}
+use Rattle.rivandoze.proofs.ShrinkWord.{length-small, shrink-word}
+use Rattle.rivandoze.proofs.shrinks.rvz_shrink.Statement.{statement}
+use Rattle.rivandoze.proofs.shrinks.rvz_shrink.Tie as tie
+
+pub rvz-shrink-spec : {M : Type 1} → statement M
+rvz-shrink-spec =
+    tie.close
+    (tie.spec
+    (λ c κs. search needs)
+    (λ c κs. search length-small)
+    (λ c. search needs)
+    (λ c. (search shrink-word, search needs)))

@@ -1,0 +1,5 @@
+mod Again
+mod Idle
+mod Runs
+mod Bytes
+pub mod Proved

@@ -1,0 +1,1 @@
+// What is shown of the smaller log; there is no code.
