@@ -1,4 +1,5 @@
-/* Judges transcripts by the replay of a log: whose readings are right, whose counts have the wrong sign, and whose are neither.
+/* Judges transcripts by the replay of a log: whose readings are right, whose counts have the wrong sign, and whose are neither. Then what the
+ * log itself settles, whoever reads it: for each stretch in which an encoder counts undisturbed, the direction in which its shaft went.
  *
  *   cc -std=c99 verdict.c $(pkg-config --cflags --libs rivandoze) -o verdict
  *   ./verdict LOG TRANSCRIPT..
@@ -58,6 +59,21 @@ static void print_verdict(uint64_t answer, const uint8_t *log, size_t log_len, c
     }
 }
 
+/* The stretches of the records that are applied. A double change may have been two steps either way, so the travel is a range. */
+static void print_settled(const uint8_t *log, size_t log_len) {
+    static const char *const words[] = {"open", "forward", "backward", "still"};
+    static uint8_t out[RVZ_SIGN_BYTES];
+    uint64_t count = rvz_stretches(rvz_sign(log, log_len, out, sizeof out));
+    size_t i;
+    for (i = 0; i < count; i++) {
+        int64_t steps = rvz_stretch_steps(out, i), doubles = (int64_t)rvz_stretch_doubles(out, i);
+        printf("bank %u encoder %u: records %" PRIu64 " to %" PRIu64 ", pins %" PRIu64 ", steps %" PRId64 ", double changes %" PRId64 ": %s",
+               rvz_stretch_bank(out, i), rvz_stretch_encoder(out, i), rvz_stretch_first(out, i), rvz_stretch_last(out, i),
+               rvz_stretch_pins(out, i), steps, doubles, words[rvz_stretch_direction(out, i)]);
+        printf(", travel from %" PRId64 " to %" PRId64 "\n", steps - 2 * doubles, steps + 2 * doubles);
+    }
+}
+
 int main(int argc, char **argv) {
     static uint8_t log[LOG_MAX + 1], transcript[OUT_LEN + 1];
     int i, status = 0;
@@ -81,5 +97,6 @@ int main(int argc, char **argv) {
             print_verdict(answer, log, (size_t)log_len, transcript);
         }
     }
+    print_settled(log, (size_t)log_len);
     return status;
 }

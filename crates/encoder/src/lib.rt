@@ -17,7 +17,7 @@ pub struct Encoder {
 // How many places on the pins are, at old * 4 + new: 1 is one place forward, 3 one back, 2 is both pins changed.
 const PLACES: [u8; 16] = [0, 1, 3, 2, 3, 0, 2, 1, 1, 2, 0, 3, 2, 3, 1, 0];
 
-fn places(old: u8, new: u8) -> u8
+pub fn places(old: u8, new: u8) -> u8
     ensures { λ r. ⌜ r ≡ places old new ⌝ }
 {
     let i = ((old % 4) as usize) * 4 + ((new % 4) as usize);

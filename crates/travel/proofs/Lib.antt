@@ -1,5 +1,6 @@
-mod Events
-mod Counting
-mod Banks
-mod Pins
+pub mod Events
+pub mod Counting
+pub mod Banks
+pub mod Follows
+pub mod Pins
 pub mod Proved

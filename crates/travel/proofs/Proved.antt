@@ -46,7 +46,8 @@ use Rattle.travel.specs.Demand.{Demand, DemandOfRuns}
 use Rattle.travel.specs.Log.{DemandOfLogs, DemandOfOutputs, Examples}
 use Rattle.travel.proofs.Events.{Event, pins, eventAt, pinsAmong, pins-among, all-quiet, pins-bank, event-pins}
 use Rattle.travel.proofs.Counting.{Channel, onEvent, first-ready, counting}
-use Rattle.travel.proofs.Banks.{Sound, viewAt, turn-view, turn-pins, sound-turn, sound-fresh}
+use Rattle.travel.proofs.Banks.{Sound, viewAt, turn-pins}
+use Rattle.travel.proofs.Follows.{all-sound, follows}
 use Rattle.travel.proofs.Pins.{all-pins, few}
 
 -- ---- what is counted is the travel and the gap
@@ -73,14 +74,6 @@ demand vs first last a counted = record {
         ∙ wrap-fits (steps vs) h
 
 -- ---- any run, from any sound bank
-
-all-sound : (o : Edition) (rs : List (List ℕ)) → Both Sound (played o rs .state)
-all-sound o rs = laws.keeps (turnOf o) (Both Sound) (sound-turn o) fresh rs sound-fresh
-
--- at encoder i a run is the encoder's own
-follows : (o : Edition) (k i : ℕ) → k < 2 → i < 10 → (b : State) (rs : List (List ℕ)) → Both Sound b → runOf (turnOf o) b rs .course ≡ going
-    → viewAt (o .port) k i (runOf (turnOf o) b rs .state) ≡ foldl onEvent (viewAt (o .port) k i b) (map (eventAt (o .port) k i) rs)
-follows o k i l h b rs s goes = laws.seen-by (turnOf o) (Both Sound) (sound-turn o) (viewAt (o .port) k i) (eventAt (o .port) k i) onEvent (turn-view o k i l h) b rs s goes
 
 from-state : (o : Edition) (k i : ℕ) (b : State) (r : List ℕ) (rs : List (List ℕ)) → Both Sound b → names k 3 1 i r ≡ true
     → countsInQuadrature (encoderRouted (o .port) (bankAt k b .select) i) (encoderAt i (bankAt k b) .cnfg) ≡ true → undisturbed (o .port) k i rs ≡ true → runOf (turnOf o) b (r ∷ rs) .course ≡ going

@@ -1,13 +1,13 @@
--- Numbers in bytes: one law for every width, and that a number's bytes give it back.
+-- Numbers in bytes: one law for every width, and that a number's bytes give it back, and the other way.
 -- Assumes nothing.
 use mathlib.Core.Path.{_≡_, refl, sym, _∙_}
 use mathlib.Core.List.{List, [], _∷_, _++_}
-use Prim.Native.Nat.{ℕ, zero, suc, _+_, _*_, _/_, _%_, _^_, _<_}
+use Prim.Native.Nat.{ℕ, zero, suc, _+_, _*_, _/_, _%_, _^_, _≤_, _<_}
 use native.Mathlib.Omega.{arith}
 use native.Mathlib.Nat.{suc-add, add-suc, add-zero, zero-add, pow-suc, pow-succ', mul-assoc, div-lt-iff-lt-mul}
 use native.Mathlib.Numerals.{add-one, add-four}
-use lib.ListN.{length}
-use lib.Seq.{getD-append-add, sets}
+use lib.ListN.{length, take, drop}
+use lib.Seq.{drop-cons, getD-append-add, sets}
 use Rattle.wire.specs.Bytes.{byte, leOf, leBytes}
 
 -- m bytes and then n bytes
@@ -35,6 +35,15 @@ le-bytes zero v rest h = omega arith
 le-bytes (suc n) v rest h =
     let small : v / 256 < 256 ^ n = div-lt-iff-lt-mul {k = 256} {x = v} {y = 256 ^ n} (omega arith) .1 (rw pow-suc at h) in
     rw (le-behind n (v % 256 ∷ []) (leBytes n (v / 256) ++ rest) 0, le-bytes n (v / 256) rest small) (omega arith)
+
+-- n bytes are those of their number
+pub bytes-le : (n : ℕ) (s : List ℕ) (at : ℕ) → ((i : ℕ) → byte s i < 256) → at + n ≤ length s → leBytes n (leOf n s at) ≡ take n (drop at s)
+unfolding leOf
+bytes-le zero s at b h = refl
+bytes-le (suc n) s at b h =
+    let d : (byte s at + 256 * leOf n s (suc at)) / 256 ≡ leOf n s (suc at) = omega (arith, b at) in
+    let m : (byte s at + 256 * leOf n s (suc at)) % 256 ≡ byte s at = omega (arith, b at) in
+    rw (d, m, bytes-le n s (suc at) b (omega arith), drop-cons s at 0 (omega arith))
 
 pub le-four : (s : List ℕ) (at a b : ℕ) → a ≡ leOf 2 s at → b ≡ leOf 2 s (at + 2) → a + 65536 * b ≡ leOf 4 s at
 le-four s at a b p q = rw (p, q) (sym (le-join 2 2 s at))

@@ -1,0 +1,14 @@
+-- `rivandoze::signs::rvz_sign` meets its contract. Assumes nothing.
+use borrow.Author.Needs.{needs}
+use Rattle.rivandoze.proofs.SignWord.{stretches-small, sign-word}
+use Rattle.rivandoze.proofs.signs.rvz_sign.Statement.{statement}
+use Rattle.rivandoze.proofs.signs.rvz_sign.Tie as tie
+
+pub rvz-sign-spec : {M : Type 1} → statement M
+rvz-sign-spec =
+    tie.close
+    (tie.spec
+    (λ c κs. search needs)
+    (λ c κs. search stretches-small)
+    (λ c. search needs)
+    (λ c. (search sign-word, search needs)))

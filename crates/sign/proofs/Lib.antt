@@ -1,0 +1,14 @@
+pub mod Verdicts
+pub mod Counted
+pub mod Bytes
+pub mod Pieces
+pub mod Applied
+pub mod Entries
+pub mod Once
+pub mod Lines
+pub mod Listing
+pub mod Tracks
+pub mod Kept
+pub mod Going
+pub mod Telling
+pub mod Proved

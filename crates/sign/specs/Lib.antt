@@ -1,0 +1,3 @@
+pub mod Sign
+pub mod Facts
+pub mod How
