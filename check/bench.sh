@@ -16,7 +16,7 @@ need_system64
 build() {
     rt_builds &&
         rust64 --crate-type rlib --crate-name rivandoze_check --out-dir "$work" check/src/lib.rs &&
-        rust64 --crate-name bench -C strip=debuginfo -o "$work/bench" --extern rivandoze_check="$work/librivandoze_check.rlib" \
+        rust64 --crate-name bench --cfg with_dump --cfg with_sign -C strip=debuginfo -o "$work/bench" --extern rivandoze_check="$work/librivandoze_check.rlib" \
             -L target/staticlib -l static=rivandoze check/bench/main.rs &&
         run64 "$work/bench" logs "$work/logs" &&
         make_system64 "$work/bench" "$work/logs"

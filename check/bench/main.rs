@@ -1,4 +1,5 @@
 //! The library beside the second program: nanoseconds in one process, in turns, and instructions under callgrind.
+//! The rows of the dump and of the sign are there by `--cfg with_dump` and `--cfg with_sign`.
 //!
 //! usage: bench logs FOLDER           makes what each row is about, a file each
 //!        bench times FOLDER ROUNDS   nanoseconds a record or a request: a line `ROW|LIBRARY|SECOND` for each row
@@ -9,7 +10,7 @@ mod rows;
 
 use rivandoze_check::packed;
 use rivandoze_check::reference::judge::transcript;
-use rivandoze_check::reference::log::{READING_LEN, RECORDS_MAX};
+use rivandoze_check::reference::log::RECORDS_MAX;
 use rivandoze_check::reference::rate::HIGHEST_PWM_RATE;
 use rows::{requests, Does, Row, ROWS};
 use std::path::Path;
@@ -17,6 +18,8 @@ use std::process::Command;
 use std::time::Instant;
 use std::{env, fs};
 
+/// The most bytes of output that any call has for a record.
+const OUT_LEN: usize = 32;
 /// Rounds between two looks at the clock.
 const AT_A_TIME: u64 = 8;
 /// The rounds of two runs under callgrind. Only their difference is told, so that what a run does but once falls out.
@@ -34,6 +37,10 @@ extern "C" {
         transcript: *const u8,
         transcript_len: usize,
     ) -> u64;
+    #[cfg(with_dump)]
+    fn rvz_dump(log: *const u8, log_len: usize, out: *mut u8, out_len: usize) -> u64;
+    #[cfg(with_sign)]
+    fn rvz_sign(log: *const u8, log_len: usize, out: *mut u8, out_len: usize) -> u64;
     fn rvz_find_pwm(rate: u64, tolerance: u64) -> u64;
     fn rvz_find_spi(rate: u64, tolerance: u64) -> u64;
 }
@@ -42,6 +49,10 @@ extern "C" {
 struct Side {
     replay: fn(&[u8], &mut [u8]) -> u64,
     judge: fn(&[u8], &[u8]) -> u64,
+    #[cfg(with_dump)]
+    dump: fn(&[u8], &mut [u8]) -> u64,
+    #[cfg(with_sign)]
+    sign: fn(&[u8], &mut [u8]) -> u64,
     find_pwm: fn(u64, u64) -> u64,
     find_spi: fn(u64, u64) -> u64,
 }
@@ -58,6 +69,12 @@ const LIBRARY: Side = Side {
             transcript.len(),
         )
     },
+    // SAFETY: as for the replay.
+    #[cfg(with_dump)]
+    dump: |log, out| unsafe { rvz_dump(log.as_ptr(), log.len(), out.as_mut_ptr(), out.len()) },
+    // SAFETY: as for the replay.
+    #[cfg(with_sign)]
+    sign: |log, out| unsafe { rvz_sign(log.as_ptr(), log.len(), out.as_mut_ptr(), out.len()) },
     // SAFETY: numbers only.
     find_pwm: |rate, tolerance| unsafe { rvz_find_pwm(rate, tolerance) },
     find_spi: |rate, tolerance| unsafe { rvz_find_spi(rate, tolerance) },
@@ -66,6 +83,10 @@ const LIBRARY: Side = Side {
 const SECOND: Side = Side {
     replay: packed::replay,
     judge: packed::judge,
+    #[cfg(with_dump)]
+    dump: packed::dump,
+    #[cfg(with_sign)]
+    sign: packed::sign,
     find_pwm: packed::find_pwm,
     find_spi: packed::find_spi,
 };
@@ -87,7 +108,7 @@ impl Bench {
             does: row.does,
             transcript: transcript(&asked, |count| count),
             asked,
-            out: vec![0; RECORDS_MAX * READING_LEN],
+            out: vec![0; RECORDS_MAX * OUT_LEN],
         }
     }
 
@@ -111,6 +132,18 @@ impl Bench {
             Does::Judge => {
                 let word = (self.side.judge)(&self.asked, &self.transcript);
                 assert!([SAME, BOTH].contains(&word), "not judged to be right");
+                word
+            }
+            #[cfg(with_dump)]
+            Does::Dump => {
+                let word = (self.side.dump)(&self.asked, &mut self.out);
+                assert!(word & 0xFF == 0 && word > 0, "not dumped");
+                word
+            }
+            #[cfg(with_sign)]
+            Does::Sign => {
+                let word = (self.side.sign)(&self.asked, &mut self.out);
+                assert!(word & 0xFF == 0 && word > 0, "no stretch");
                 word
             }
             Does::Find => requests(&self.asked).fold(0, |sum, (rate, tolerance)| {
@@ -146,14 +179,14 @@ fn main() {
 
 fn logs(folder: &Path) {
     fs::create_dir_all(folder).expect("the folder");
-    for row in &ROWS {
+    for row in ROWS {
         fs::write(folder.join(row.name), (row.make)()).expect("a file of the folder");
     }
 }
 
 /// The best of all turns of each side.
 fn times(folder: &Path, rounds: u64) {
-    for row in &ROWS {
+    for row in ROWS {
         let mut sides = [LIBRARY, SECOND].map(|side| Bench::new(folder, row, side));
         assert_same(row, sides.iter_mut().map(|bench| bench.run(1)));
         let mut best = [f64::INFINITY; 2];
@@ -200,7 +233,7 @@ fn counts(folder: &Path) {
 
 /// Each row by the library, by a few rounds and by more, and by the second program.
 fn runs(folder: &Path) {
-    for row in &ROWS {
+    for row in ROWS {
         let answers = [LIBRARY, SECOND].map(|side| {
             let mut bench = Bench::new(folder, row, side);
             [FEW, MORE].map(|rounds| counted(&mut bench, rounds))

@@ -17,6 +17,10 @@ pub enum Does {
     /// By a right transcript.
     Judge,
     Find,
+    #[cfg(with_dump)]
+    Dump,
+    #[cfg(with_sign)]
+    Sign,
 }
 
 pub struct Row {
@@ -26,7 +30,7 @@ pub struct Row {
     pub make: fn() -> Vec<u8>,
 }
 
-pub const ROWS: [Row; 13] = [
+pub const ROWS: &[Row] = &[
     row("pins of one encoder", Does::Replay, || pins(1, 1)),
     row("pins of ten encoders", Does::Replay, || pins(10, 1)),
     row("pins, changing bank", Does::Replay, || pins(10, 2)),
@@ -48,6 +52,14 @@ pub const ROWS: [Row; 13] = [
         mix(1, 20)
     }),
     row("the finder, a request", Does::Find, some_requests),
+    #[cfg(with_dump)]
+    row("pins, changing bank, dumped", Does::Dump, || pins(10, 2)),
+    #[cfg(with_dump)]
+    row("a mix over both banks, dumped", Does::Dump, || mix(2, 20)),
+    #[cfg(with_sign)]
+    row("pins, changing bank, signed", Does::Sign, || pins(10, 2)),
+    #[cfg(with_sign)]
+    row("a mix over both banks, signed", Does::Sign, || mix(2, 20)),
 ];
 
 const fn row(name: &'static str, does: Does, make: fn() -> Vec<u8>) -> Row {
@@ -59,7 +71,7 @@ impl Row {
     pub fn parts(&self) -> usize {
         match self.does {
             Does::Find => REQUESTS,
-            Does::Replay | Does::Judge => RECORDS_MAX,
+            _ => RECORDS_MAX,
         }
     }
 }

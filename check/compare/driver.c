@@ -11,7 +11,7 @@
 #include "rivandoze.h"
 
 enum { GUARD = 64, ROOM = 1 << 20 };
-enum call { REPLAY, JUDGE, DUMP, DUMP_READ };
+enum call { REPLAY, JUDGE, DUMP, DUMP_READ, WRITE, SHRINK, SIGN, STREAM };
 enum place { BETWEEN_GUARDS, BEFORE_THE_END, BEHIND_THE_START, ALONE };
 
 /* The header's numbers are those of docs/WAVEFORM.md. */
@@ -109,7 +109,116 @@ static void take_lent(struct lent *lent, enum place place, size_t len) {
 
 static int kept(const struct lent *lent) { return memcmp(lent->copy, lent->area.start, whole(&lent->area)) == 0; }
 
-static uint64_t answer_to(enum call call, const struct area *log, const struct area *beside, const struct area *out) {
+/* WITH_WRITE, WITH_SHRINK, WITH_SIGN and WITH_STREAM tell which of these calls the library has. They are declared here as well as in the
+ * header, so that they must agree. */
+#ifdef WITH_WRITE
+uint64_t rvz_write(uint64_t edition, const uint8_t *notes, size_t notes_len, const uint8_t *records, size_t records_len, uint8_t *out, size_t out_len);
+#endif
+#ifdef WITH_SHRINK
+uint64_t rvz_shrink(const uint8_t *log, size_t log_len, uint8_t *out, size_t out_len);
+#endif
+#ifdef WITH_SIGN
+uint64_t rvz_sign(const uint8_t *log, size_t log_len, uint8_t *out, size_t out_len);
+#endif
+
+#ifdef WITH_STREAM
+uint64_t rvz_stream_start(uint64_t edition, uint8_t *state, size_t state_len);
+uint64_t rvz_stream_chunk(uint8_t *state, size_t state_len, const uint8_t *chunk, size_t chunk_len, uint8_t *out, size_t out_len);
+uint64_t rvz_stream_end(const uint8_t *state, size_t state_len);
+uint64_t rvz_stream_applied(const uint8_t *state, size_t state_len);
+
+enum ask { START, CHUNK, END, APPLIED, MOVE, SHORT_CHUNK, SHORT_END, SHORT_APPLIED };
+enum { SIX = 6, NO_STATE = 19, UNSET = 0xC3 };
+
+/* The state of the stream, in a block of the heap of its own. */
+static struct { uint8_t *bytes; size_t len; } state;
+
+static void new_state(size_t len) {
+    free(state.bytes);
+    state.len = len;
+    state.bytes = malloc(len + (len == 0));
+    if (state.bytes == NULL) {
+        stop("no memory");
+    }
+    memset(state.bytes, UNSET, len);
+}
+
+static void move_state(void) {
+    uint8_t *old = state.bytes;
+    state.bytes = NULL;
+    new_state(state.len);
+    memcpy(state.bytes, old, state.len);
+    memset(old, UNSET, state.len);
+    free(old);
+}
+
+/* Whether the state is unset from here on: what lies behind the state proper, and all of it where there is none. */
+static int unset_from(size_t from) {
+    for (size_t i = from; i < state.len; i++) {
+        if (state.bytes[i] != UNSET) return 0;
+    }
+    return 1;
+}
+
+static uint64_t ask(const uint64_t words[4], const struct area *log, uint8_t *out) {
+    size_t shorter = state.len < RVZ_STREAM_BYTES ? state.len : RVZ_STREAM_BYTES - 1;
+    size_t len = words[0] >= SHORT_CHUNK ? shorter : state.len;
+    switch ((enum ask)words[0]) {
+    case START:
+        new_state((size_t)(RVZ_STREAM_BYTES + words[2] - words[3]));
+        return rvz_stream_start(words[1], state.bytes, state.len);
+    case CHUNK:
+    case SHORT_CHUNK:
+        if (words[1] > log->len || words[2] > log->len - words[1]) {
+            stop("a chunk of no log");
+        }
+        return rvz_stream_chunk(state.bytes, len, inside(log) + words[1], words[2], out, words[3]);
+    case END:
+    case SHORT_END:
+        return rvz_stream_end(state.bytes, len);
+    case APPLIED:
+    case SHORT_APPLIED:
+        return rvz_stream_applied(state.bytes, len);
+    case MOVE:
+        move_state();
+        return 0;
+    }
+    stop("no such ask");
+    return 0;
+}
+
+/* Plays a script, as check/src/script.rs has it: how many calls that was. Clears `good` where a state was changed that may not be. */
+static uint64_t play(const struct area *log, const struct area *script, const struct area *out, uint64_t *good) {
+    uint8_t *at = inside(out), *old = malloc(ROOM);
+    uint64_t number = 0;
+    for (size_t next = 0; next < script->len; next += 32, number++) {
+        uint64_t words[4];
+        memcpy(words, inside(script) + next, sizeof words);
+        size_t room = words[0] == CHUNK || words[0] == SHORT_CHUNK ? (size_t)words[3] : 0;
+        if (old == NULL || (number == 0) != (words[0] == START) || (size_t)(inside(out) + out->len - at) < room + 16) {
+            stop("no such script");
+        }
+        size_t len = number == 0 ? 0 : state.len;
+        memcpy(old, state.bytes == NULL ? at : state.bytes, len);
+        uint64_t answer = ask(words, log, at + 8);
+        unsigned refused = (unsigned)(answer & 0xFF);
+        if (words[0] == START) {
+            if (!unset_from(refused == 0 ? RVZ_STREAM_BYTES : 0)) *good = 0;
+        } else {
+            int may = words[0] == CHUNK && refused != SIX && refused != NO_STATE;
+            if (!may && memcmp(old, state.bytes, len) != 0) *good = 0;
+            if (may && !unset_from(RVZ_STREAM_BYTES)) *good = 0;
+        }
+        memcpy(at, &answer, sizeof answer);
+        at += room + 16;
+    }
+    free(old);
+    return number;
+}
+#endif
+
+static uint64_t answer_to(enum call call, uint64_t edition, const struct area *log, const struct area *beside, const struct area *out) {
+    (void)edition;
     switch (call) {
     case REPLAY:
         return rvz_replay(inside(log), log->len, inside(out), out->len);
@@ -119,6 +228,20 @@ static uint64_t answer_to(enum call call, const struct area *log, const struct a
         return rvz_dump(inside(log), log->len, inside(out), out->len);
     case DUMP_READ:
         return rvz_dump_read(inside(log), log->len, inside(out), out->len);
+#ifdef WITH_WRITE
+    case WRITE:
+        return rvz_write(edition, inside(beside), beside->len, inside(log), log->len, inside(out), out->len);
+#endif
+#ifdef WITH_SHRINK
+    case SHRINK:
+        return rvz_shrink(inside(log), log->len, inside(out), out->len);
+#endif
+#ifdef WITH_SIGN
+    case SIGN:
+        return rvz_sign(inside(log), log->len, inside(out), out->len);
+#endif
+    default:
+        break;
     }
     stop("no such call");
     return 0;
@@ -127,7 +250,7 @@ static uint64_t answer_to(enum call call, const struct area *log, const struct a
 int main(void) {
     struct lent log = reserve(), beside = reserve();
     uint8_t *out_room = fenced();
-    struct { uint64_t call, log_len, beside_len, out_len, pattern, place; } request;
+    struct { uint64_t call, log_len, beside_len, out_len, pattern, place, edition; } request;
     const size_t most = ROOM - 2 * GUARD;
     while (take(&request, sizeof request)) {
         if (request.log_len > most || request.beside_len > most || request.out_len > most || request.place > ALONE) {
@@ -140,8 +263,17 @@ int main(void) {
         fill(&out, request.pattern);
 
         uint64_t answer[2];
-        answer[0] = answer_to((enum call)request.call, &log.area, &beside.area, &out);
-        answer[1] = kept(&log) && kept(&beside);
+#ifdef WITH_STREAM
+        if (request.call == STREAM) {
+            uint64_t good = 1;
+            answer[0] = play(&log.area, &beside.area, &out, &good);
+            answer[1] = good && kept(&log) && kept(&beside);
+        } else
+#endif
+        {
+            answer[0] = answer_to((enum call)request.call, request.edition, &log.area, &beside.area, &out);
+            answer[1] = kept(&log) && kept(&beside);
+        }
 
         give(answer, sizeof answer);
         give(out.start, whole(&out));
@@ -152,6 +284,9 @@ int main(void) {
             free(out.start);
         }
     }
+#ifdef WITH_STREAM
+    free(state.bytes);
+#endif
     free(log.copy);
     free(beside.copy);
     return 0;

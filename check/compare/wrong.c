@@ -88,3 +88,52 @@ uint64_t __wrap_rvz_dump_read(const uint8_t *text, size_t text_len, uint8_t *out
     touch("dump-read", text, text_len, out, out_len);
     return answer;
 }
+
+#ifdef WITH_WRITE
+uint64_t __real_rvz_write(uint64_t edition, const uint8_t *notes, size_t notes_len, const uint8_t *records, size_t records_len, uint8_t *out,
+    size_t out_len);
+uint64_t __wrap_rvz_write(uint64_t edition, const uint8_t *notes, size_t notes_len, const uint8_t *records, size_t records_len, uint8_t *out,
+    size_t out_len);
+
+uint64_t __wrap_rvz_write(uint64_t edition, const uint8_t *notes, size_t notes_len, const uint8_t *records, size_t records_len, uint8_t *out,
+    size_t out_len) {
+    uint64_t answer = __real_rvz_write(edition, notes, notes_len, records, records_len, out, out_len);
+    touch("write", records, records_len, out, out_len);
+    touch("write-notes", notes, notes_len, out, out_len);
+    return answer;
+}
+#endif
+
+#ifdef WITH_SHRINK
+uint64_t __real_rvz_shrink(const uint8_t *log, size_t log_len, uint8_t *out, size_t out_len);
+uint64_t __wrap_rvz_shrink(const uint8_t *log, size_t log_len, uint8_t *out, size_t out_len);
+
+uint64_t __wrap_rvz_shrink(const uint8_t *log, size_t log_len, uint8_t *out, size_t out_len) {
+    uint64_t answer = __real_rvz_shrink(log, log_len, out, out_len);
+    touch("shrink", log, log_len, out, out_len);
+    return answer;
+}
+#endif
+
+#ifdef WITH_SIGN
+uint64_t __real_rvz_sign(const uint8_t *log, size_t log_len, uint8_t *out, size_t out_len);
+uint64_t __wrap_rvz_sign(const uint8_t *log, size_t log_len, uint8_t *out, size_t out_len);
+
+uint64_t __wrap_rvz_sign(const uint8_t *log, size_t log_len, uint8_t *out, size_t out_len) {
+    uint64_t answer = __real_rvz_sign(log, log_len, out, out_len);
+    touch("sign", log, log_len, out, out_len);
+    return answer;
+}
+#endif
+
+#ifdef WITH_STREAM
+uint64_t __real_rvz_stream_chunk(uint8_t *state, size_t state_len, const uint8_t *chunk, size_t chunk_len, uint8_t *out, size_t out_len);
+uint64_t __wrap_rvz_stream_chunk(uint8_t *state, size_t state_len, const uint8_t *chunk, size_t chunk_len, uint8_t *out, size_t out_len);
+
+/* A chunk lies between others, so that only what is written shows. */
+uint64_t __wrap_rvz_stream_chunk(uint8_t *state, size_t state_len, const uint8_t *chunk, size_t chunk_len, uint8_t *out, size_t out_len) {
+    uint64_t answer = __real_rvz_stream_chunk(state, state_len, chunk, chunk_len, out, out_len);
+    touch("stream", chunk, chunk_len, out, out_len);
+    return answer;
+}
+#endif

@@ -6,8 +6,12 @@ mod by_chance;
 mod dumped;
 mod in_order;
 mod judged;
+mod streamed;
+mod walked;
+mod written;
 
 pub use dumped::longest_dump;
+pub use written::reads_back;
 
 use crate::exchange::{Call, Request, PLACES};
 use crate::generate::Rng;
@@ -117,6 +121,77 @@ pub const DUMP_FAMILIES: &[Family] = &[
     family!("texts of every length", false, dumped::text_lengths),
 ];
 
+/// For the writer.
+pub const WRITE_FAMILIES: &[Family] = &[
+    family!("written parts of logs", true, written::parts_of_logs),
+    family!("written with faults", true, written::faults),
+    family!("written in every edition", false, written::editions),
+    family!("written in every length", false, written::lengths),
+    family!("written in every room", false, written::rooms),
+    family!("written for every register", false, written::registers),
+    family!("written with every bit and bank", false, written::bytes),
+];
+
+/// For shrinking.
+pub const SHRINK_FAMILIES: &[Family] = &[
+    family!("shrunk walks", true, |rng, size| walked::SHRINK
+        .walks(rng, size)),
+    family!("shrunk full logs", true, |rng, size| walked::SHRINK
+        .full_logs(rng, size)),
+    family!("shrunk generated logs", true, |rng, size| walked::SHRINK
+        .generated(rng, size)),
+    family!("shrunk logs with each fault", true, |rng, size| {
+        walked::SHRINK.faults(rng, size)
+    }),
+    family!("shrunk damaged logs", true, |rng, size| walked::SHRINK
+        .damaged(rng, size)),
+    family!("shrunk logs in every room", false, |rng, size| {
+        walked::SHRINK.rooms(rng, size)
+    }),
+    family!(
+        "shrunk pins with each record between",
+        false,
+        |rng, size| walked::SHRINK.between(rng, size)
+    ),
+    family!("shrunk every six pins", false, |rng, size| walked::SHRINK
+        .every_walk(rng, size)),
+];
+
+/// For the sign.
+pub const SIGN_FAMILIES: &[Family] = &[
+    family!("signs of walks", true, |rng, size| walked::SIGN
+        .walks(rng, size)),
+    family!("signs of full logs", true, |rng, size| walked::SIGN
+        .full_logs(rng, size)),
+    family!("signs of generated logs", true, |rng, size| walked::SIGN
+        .generated(rng, size)),
+    family!("signs of logs with each fault", true, |rng, size| {
+        walked::SIGN.faults(rng, size)
+    }),
+    family!("signs of damaged logs", true, |rng, size| walked::SIGN
+        .damaged(rng, size)),
+    family!("signs of logs in every room", false, |rng, size| {
+        walked::SIGN.rooms(rng, size)
+    }),
+    family!(
+        "signs of pins with each record between",
+        false,
+        |rng, size| walked::SIGN.between(rng, size)
+    ),
+    family!("signs of every six pins", false, |rng, size| walked::SIGN
+        .every_walk(rng, size)),
+];
+
+/// For the stream.
+pub const STREAM_FAMILIES: &[Family] = &[
+    family!("streams by chance", true, streamed::by_chance),
+    family!("streams with each fault", true, streamed::faults),
+    family!("long streams", true, streamed::long),
+    family!("streams cut everywhere", false, streamed::every_cut),
+    family!("streams of every edition", false, streamed::starts),
+    family!("streams in every room", false, streamed::rooms),
+];
+
 /// A log lent with an output of the given length, somewhere.
 fn lent(log: Vec<u8>, out_len: usize, rng: &mut Rng) -> Request {
     Request {
@@ -126,6 +201,7 @@ fn lent(log: Vec<u8>, out_len: usize, rng: &mut Rng) -> Request {
         out_len,
         pattern: rng.draw(),
         place: rng.pick(&PLACES),
+        edition: 0,
     }
 }
 

@@ -1,16 +1,18 @@
 //! How a driver is asked for a call of the library, and how it answers, over two pipes.
 //!
-//! A request is six numbers of 64 bits (the call, the lengths of the log, of what is lent beside it and
-//! of the output, the seed of the pattern, the place), the log, and what is lent beside it. The answer
+//! A request is seven numbers of 64 bits (the call, the lengths of the log, of what is lent beside it and
+//! of the output, the seed of the pattern, the place, the edition that the writer is given), the log, and what
+//! is lent beside it. The answer
 //! is two numbers (the word, and 1 if what was lent to be read and the bytes around it are as they were),
 //! then every byte of the guards and of the output between them. All numbers are little-endian. The
 //! end of the requests is told when all are answered. `compare/driver.c` speaks the same.
 
 use crate::packed;
+use crate::script::{self, Right};
 use std::io::{self, Read, Write};
 
 /// The numbers of a request.
-pub const HEADER_LEN: usize = 48;
+pub const HEADER_LEN: usize = 56;
 
 /// How many guard bytes lie on a side that has some.
 pub const GUARD_LEN: usize = 64;
@@ -21,9 +23,23 @@ pub enum Call {
     Judge = 1,
     Dump = 2,
     DumpRead = 3,
+    Write = 4,
+    Shrink = 5,
+    Sign = 6,
+    /// As a script has it, which `stream` explains.
+    Stream = 7,
 }
 
-pub const CALLS: [Call; 4] = [Call::Replay, Call::Judge, Call::Dump, Call::DumpRead];
+pub const CALLS: [Call; 8] = [
+    Call::Replay,
+    Call::Judge,
+    Call::Dump,
+    Call::DumpRead,
+    Call::Write,
+    Call::Shrink,
+    Call::Sign,
+    Call::Stream,
+];
 
 impl Call {
     pub fn name(self) -> &'static str {
@@ -32,6 +48,10 @@ impl Call {
             Call::Judge => "judge",
             Call::Dump => "dump",
             Call::DumpRead => "dump-read",
+            Call::Write => "write",
+            Call::Shrink => "shrink",
+            Call::Sign => "sign",
+            Call::Stream => "stream",
         }
     }
 
@@ -82,13 +102,15 @@ impl Place {
 #[derive(Debug, Clone, PartialEq, Eq)]
 pub struct Request {
     pub call: Call,
-    /// A log, or the text for the dump's reader.
+    /// A log, or the text for the dump's reader, or records for the writer or the stream.
     pub log: Vec<u8>,
-    /// What is lent beside the log: the judge's transcript.
+    /// What is lent beside the log: the judge's transcript, the writer's notes, the stream's script.
     pub beside: Vec<u8>,
     pub out_len: usize,
     pub pattern: u64,
     pub place: Place,
+    /// The writer's edition; otherwise 0.
+    pub edition: u64,
 }
 
 #[derive(Debug, Clone, PartialEq, Eq)]
@@ -156,6 +178,10 @@ impl Request {
             Call::Judge => packed::judge(&self.log, &self.beside),
             Call::Dump => packed::dump(&self.log, area.out()),
             Call::DumpRead => packed::dump_read(&self.log, area.out()),
+            Call::Write => packed::write(self.edition, &self.beside, &self.log, area.out()),
+            Call::Shrink => packed::shrink(&self.log, area.out()),
+            Call::Sign => packed::sign(&self.log, area.out()),
+            Call::Stream => script::run(&mut Right::default(), &self.log, &self.beside, area.out()),
         };
         Answer {
             word,
@@ -172,6 +198,7 @@ impl Request {
             self.out_len as u64,
             self.pattern,
             self.place as u64,
+            self.edition,
         ];
         to.write_all(&numbers.map(u64::to_le_bytes).concat())?;
         to.write_all(&self.log)?;
@@ -203,6 +230,7 @@ impl Request {
             out_len: number(3) as usize,
             pattern: number(4),
             place: Place::from_number(number(5)).ok_or_else(|| broken("no such place"))?,
+            edition: number(6),
         }))
     }
 }

@@ -7,9 +7,11 @@ use rivandoze_check::reference::dump_read::Entry;
 use rivandoze_check::reference::judge::{negated, transcript};
 use rivandoze_check::reference::log::{each_reading, LOG_MAX, READING_LEN, RECORDS_MAX};
 use rivandoze_check::reference::refusal::Refusal;
+use rivandoze_check::reference::sign::{Stretch, Way};
+use rivandoze_check::reference::writer::Unwritten;
 use rivandoze_check::reference::{
-    dump, dump_read, find_pwm, find_spi, judge, rate_pwm, rate_spi, replay_fully, Outcome, Pair,
-    Verdict,
+    dump, dump_read, find_pwm, find_spi, judge, rate_pwm, rate_spi, replay_fully, shrink, sign,
+    write, Outcome, Pair, Stream, Verdict,
 };
 use rivandoze_check::text::{from_text, to_text};
 use std::fmt::Write as _;
@@ -24,6 +26,10 @@ rvz-check judge FILE            a reader's transcript in a file against the log 
 rvz-check transcript [negated]  the transcript of the log on standard input, or the one with every
                                 encoder CNTR reading negated
 rvz-check dump                  the dump of the log on standard input, by docs/WAVEFORM.md
+rvz-check write EDITION [FILE]  the log of the records on standard input, behind the notes in a file
+rvz-check shrink                the log on standard input without records that change nothing
+rvz-check sign                  what its pins say of the way that each encoder has gone
+rvz-check stream EDITION        the readings of the records on standard input
 rvz-check dump-read             such a dump read back: time, bank, encoder and pins, a line each
 rvz-check pwm RATE TOL          find a divider choice and X for a rate in millihertz
 rvz-check spi RATE TOL
@@ -74,6 +80,18 @@ fn answer(words: &[&str]) -> Result<Vec<u8>, String> {
             let text = dump(&input(LOG_MAX + 1)?);
             return text.map_err(refused);
         }
+        ["write", edition] => return written(number(edition)?, &[]),
+        ["write", edition, file] => {
+            let notes = std::fs::read(file).map_err(|error| format!("{file}: {error}"))?;
+            return written(number(edition)?, &notes);
+        }
+        ["shrink"] => return shrink(&input(LOG_MAX + 1)?).map_err(refused),
+        ["sign"] => {
+            let (refusal, applied, stretches) = sign(&input(LOG_MAX + 1)?, usize::MAX);
+            let lines: String = stretches.iter().map(stretch_line).collect();
+            format!("{lines}applied {applied} refused {refusal}\n")
+        }
+        ["stream", edition] => streamed(number(edition)?, &input(usize::MAX)?),
         ["dump-read"] => match dump_read(&input(DUMP_MAX + 1)?) {
             Ok(entries) => entries.iter().map(entry_line).collect(),
             Err(refusal) => refused(refusal),
@@ -154,6 +172,47 @@ fn verdict(answer: Result<Verdict, Refusal>) -> String {
         Ok(Verdict::Different(index)) => format!("different {index}\n"),
         Err(refusal) => refused(refusal),
     }
+}
+
+fn written(edition: u64, notes: &[u8]) -> Result<Vec<u8>, String> {
+    write(edition, notes, &input(usize::MAX)?).map_err(|unwritten| match unwritten {
+        Unwritten::By(refusal) => refused(refusal),
+        Unwritten::Record(refusal, index) => format!("refused {refusal} record {index}"),
+    })
+}
+
+fn stretch_line(stretch: &Stretch) -> String {
+    let Stretch {
+        bank,
+        encoder,
+        first,
+        last,
+        pins,
+        steps,
+        doubles,
+    } = stretch;
+    let way = match stretch.way() {
+        Way::Open => "open",
+        Way::Forward => "forward",
+        Way::Backward => "backward",
+        Way::Still => "still",
+    };
+    format!(
+        "bank {bank} encoder {encoder} records {first} to {last} pins {pins} steps {steps} doubles {doubles} {way}\n"
+    )
+}
+
+fn streamed(edition: u64, records: &[u8]) -> String {
+    let mut stream = match Stream::start(edition) {
+        Ok(stream) => stream,
+        Err(refusal) => return format!("applied 0 refused {refusal}\n"),
+    };
+    let mut out = vec![0; records.len()];
+    let (_, readings) = stream.chunk(records, &mut out);
+    let readings = each_reading(&out).take(readings as usize);
+    let lines: String = readings.map(|reading| format!("{reading}\n")).collect();
+    let (applied, refused) = (stream.applied(), stream.end());
+    format!("{lines}applied {applied} refused {refused}\n")
 }
 
 fn entry_line(entry: &Entry) -> String {

@@ -2,6 +2,8 @@
 //! rest 0 when refused but for the records applied.
 
 use crate::reference::refusal::{Refusal, NONE, OUTPUT_TOO_SHORT};
+use crate::reference::sign::STRETCH_LEN;
+use crate::reference::writer::Unwritten;
 use crate::reference::{self, Pair, Verdict};
 
 pub fn replay(log: &[u8], out: &mut [u8]) -> u64 {
@@ -35,6 +37,29 @@ pub fn dump_read(text: &[u8], out: &mut [u8]) -> u64 {
         }
         Err(refusal) => refusal.into(),
     }
+}
+
+pub fn write(edition: u64, notes: &[u8], records: &[u8], out: &mut [u8]) -> u64 {
+    match reference::write(edition, notes, records) {
+        Ok(log) => laid(&log, log.len(), out),
+        Err(Unwritten::By(refusal)) => refusal.into(),
+        Err(Unwritten::Record(refusal, index)) => u64::from(refusal) | index << 8,
+    }
+}
+
+pub fn shrink(log: &[u8], out: &mut [u8]) -> u64 {
+    match reference::shrink(log) {
+        Ok(smaller) => laid(&smaller, smaller.len(), out),
+        Err(refusal) => refusal.into(),
+    }
+}
+
+pub fn sign(log: &[u8], out: &mut [u8]) -> u64 {
+    let (refusal, _, stretches) = reference::sign(log, out.len());
+    for (stretch, entry) in stretches.iter().zip(out.chunks_exact_mut(STRETCH_LEN)) {
+        entry.copy_from_slice(&stretch.to_bytes());
+    }
+    u64::from(refusal) | (stretches.len() as u64) << 8
 }
 
 /// So many, where their bytes fit.

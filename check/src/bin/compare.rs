@@ -1,7 +1,10 @@
 //! Compares a driver, which calls the library, with the reference: every word, and every byte of the
 //! output and of what lies around it.
 
-use rivandoze_check::cases::{Family, Requests, Size, DUMP_FAMILIES, FAMILIES};
+use rivandoze_check::cases::{
+    Family, Requests, Size, DUMP_FAMILIES, FAMILIES, SHRINK_FAMILIES, SIGN_FAMILIES,
+    STREAM_FAMILIES, WRITE_FAMILIES,
+};
 use rivandoze_check::exchange::{Answer, Call, Place, Request};
 use rivandoze_check::reference::log::{records, READING_LEN};
 use rivandoze_check::reference::record::READ;
@@ -19,12 +22,22 @@ compare short SEED DIR DRIVER..            fewer of them, up to the first differ
 compare alone SEED DIR DRIVER..            the same logs, of one driver, each in a block of the heap of its own
 compare few SEED DIR DRIVER..              every twentieth of these, for a slow driver
 compare seconds N SEED DIR DRIVER..        logs by chance, for so many seconds
-compare rerun CALL FILE OUT PATTERN PLACE DRIVER..
+compare rerun CALL FILE OUT PATTERN PLACE EDITION DRIVER..
                                            one log, with what was lent to it; what was lent beside it
                                            is in a file of the same name that ends in .beside
-Each of these, up to seconds, also as dump-full, dump-short and so on: the dump and its reader.
+Each of these, up to seconds, also as dump-full, dump-short and so on: the dump and its reader; and as write-full,
+shrink-full, sign-full and stream-full and so on: these calls.
 A log that is answered otherwise than by the reference is written to DIR.
 ";
+
+/// What a mode begins with, and the families that it is about.
+const GROUPS: [(&str, &[Family]); 5] = [
+    ("dump-", DUMP_FAMILIES),
+    ("write-", WRITE_FAMILIES),
+    ("shrink-", SHRINK_FAMILIES),
+    ("sign-", SIGN_FAMILIES),
+    ("stream-", STREAM_FAMILIES),
+];
 
 /// How many requests may be under way.
 const AHEAD: usize = 64;
@@ -48,10 +61,10 @@ fn main() -> ExitCode {
 /// Whether all was as by the reference.
 fn run(words: &[String]) -> Result<bool, String> {
     let (mode, words) = words.split_first().ok_or(USAGE)?;
-    let (families, mode) = match mode.strip_prefix("dump-") {
-        Some(mode) => (DUMP_FAMILIES, mode),
-        None => (FAMILIES, mode.as_str()),
-    };
+    let group = GROUPS
+        .iter()
+        .find_map(|(prefix, families)| Some((*families, mode.strip_prefix(prefix)?)));
+    let (families, mode) = group.unwrap_or((FAMILIES, mode));
     match mode {
         "full" => full(families, words),
         "short" => short(families, words),
@@ -161,15 +174,20 @@ impl<'a> Against<'a> {
 
 fn rerun(words: &[String]) -> Result<bool, String> {
     let (call, file, numbers, driver) = match words {
-        [call, file, out_len, pattern, place, driver @ ..] if !driver.is_empty() => (
+        [call, file, out_len, pattern, place, edition, driver @ ..] if !driver.is_empty() => (
             call,
             file,
-            [number(out_len)?, number(pattern)?, number(place)?],
+            [
+                number(out_len)?,
+                number(pattern)?,
+                number(place)?,
+                number(edition)?,
+            ],
             driver,
         ),
         _ => return Err(USAGE.into()),
     };
-    let [out_len, pattern, place] = numbers;
+    let [out_len, pattern, place, edition] = numbers;
     let request = Request {
         call: Call::from_name(call).ok_or_else(|| format!("no such call: {call}"))?,
         log: fs::read(file).map_err(|error| format!("{file}: {error}"))?,
@@ -177,6 +195,7 @@ fn rerun(words: &[String]) -> Result<bool, String> {
         out_len: out_len as usize,
         pattern,
         place: Place::from_number(place).ok_or("a place is 0, 1, 2 or 3")?,
+        edition,
     };
     match ask(Box::new(std::iter::once(request)), driver)? {
         Outcome::Same { applied, .. } => println!("the same, {applied} records applied"),
@@ -234,7 +253,7 @@ fn ask(requests: Requests, driver: &[String]) -> Result<Outcome, String> {
         }
         let newly_applied = match request.call {
             Call::Replay => wanted.word >> 8,
-            Call::Judge | Call::Dump | Call::DumpRead => 0,
+            _ => 0,
         };
         outcome = (index + 1, applied + newly_applied);
     }
@@ -328,6 +347,10 @@ fn word(call: Call, word: u64) -> String {
         }
         Call::Dump => format!("length {} refused {refused}", word >> 8),
         Call::DumpRead => format!("entries {} refused {refused}", word >> 8),
+        Call::Write => format!("length or index {} refused {refused}", word >> 8),
+        Call::Shrink => format!("length {} refused {refused}", word >> 8),
+        Call::Sign => format!("stretches {} refused {refused}", word >> 8),
+        Call::Stream => format!("{word} calls"),
     }
 }
 
@@ -335,8 +358,8 @@ fn word(call: Call, word: u64) -> String {
 fn save(stem: &Path, request: &Request) -> Result<(), String> {
     let log = stem.with_extension("log");
     let lent = format!(
-        "{} {} {}",
-        request.out_len, request.pattern, request.place as u64
+        "{} {} {} {}",
+        request.out_len, request.pattern, request.place as u64, request.edition
     );
     let call = request.call.name();
     let command = format!("tests/compare.sh rerun {call} {} {lent}", log.display());

@@ -48,13 +48,13 @@ fn room(needed: usize, rng: &mut Rng) -> usize {
 }
 
 /// The records of a log in the making, all of which are applied.
-struct Making {
-    device: Device,
-    records: Vec<Fields>,
+pub(super) struct Making {
+    pub(super) device: Device,
+    pub(super) records: Vec<Fields>,
 }
 
 impl Making {
-    fn new(edition: Edition) -> Self {
+    pub(super) fn new(edition: Edition) -> Self {
         Making {
             device: Device::fresh(edition),
             records: Vec::new(),
@@ -62,7 +62,7 @@ impl Making {
     }
 
     /// Unless it is refused.
-    fn put(&mut self, fields: Fields) -> bool {
+    pub(super) fn put(&mut self, fields: Fields) -> bool {
         let applied = self.device.apply(&fields).is_ok();
         if applied {
             self.records.push(fields);
@@ -71,14 +71,14 @@ impl Making {
     }
 
     /// All encoders that the edition has.
-    fn route_all(&mut self) {
+    pub(super) fn route_all(&mut self) {
         for bank in 0..2 {
             let select = |value| Fields::write(SELECT, 0, 0, value).in_bank(bank);
             let _ = self.put(select(ALL_ENCODERS)) || self.put(select(PORT_ENCODER));
         }
     }
 
-    fn route_some(&mut self, bank: u8, rng: &mut Rng) {
+    pub(super) fn route_some(&mut self, bank: u8, rng: &mut Rng) {
         let pairs = (0..ENCODERS).filter(|_| rng.chance(70));
         let some = pairs.map(|pair| 0xA << (4 * pair)).sum();
         let value = rng.pick(&[some, some, PORT_ENCODER, ALL_ENCODERS, 0]);
@@ -150,7 +150,7 @@ fn other_record(making: &mut Making, bank: u8, rng: &mut Rng) {
 }
 
 /// Refused wherever it stands, or where the encoder is not routed.
-fn some_fault(rng: &mut Rng) -> Fields {
+pub(super) fn some_fault(rng: &mut Rng) -> Fields {
     let bank = rng.below(2) as u8;
     rng.pick(&[
         Fields::pins(0, 4).in_bank(bank),

@@ -250,7 +250,7 @@ pub fn accesses(mut rng: Rng, size: Size) -> Requests {
     }))
 }
 
-fn every_access() -> impl Iterator<Item = Fields> {
+pub fn every_access() -> impl Iterator<Item = Fields> {
     let kinds = [0, 1, 2, 3, 4, 5, 6, 0x81, 0x82, 255];
     let blocks = [0, 1, 2, 3, 4, 255];
     let channels = (0..=21).chain([128, 255]);
@@ -296,7 +296,7 @@ pub fn registers(mut rng: Rng, size: Size) -> Requests {
     }))
 }
 
-fn every_register(size: Size) -> impl Iterator<Item = Fields> {
+pub fn every_register(size: Size) -> impl Iterator<Item = Fields> {
     let short = size == Size::Short;
     let kinds = (0..=6).chain([255]);
     let kinds = kinds.filter(move |kind| !short || (1..=5).contains(kind));
@@ -390,7 +390,7 @@ fn all_on(edition: Edition) -> impl Iterator<Item = Fields> {
 }
 
 /// Each is applied behind those.
-fn one_of_each(edition: Edition) -> impl Iterator<Item = Fields> {
+pub fn one_of_each(edition: Edition) -> impl Iterator<Item = Fields> {
     banks(edition).flat_map(move |bank| in_bank(bank, &one_of_each_in(edition, bank)))
 }
 

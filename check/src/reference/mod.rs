@@ -16,6 +16,10 @@ pub mod rate;
 pub mod record;
 pub mod refusal;
 pub mod select;
+pub mod shrink;
+pub mod sign;
+pub mod stream;
+pub mod writer;
 
 pub use bank::Bank;
 pub use brute::{brute_pwm, brute_spi};
@@ -26,3 +30,7 @@ pub use edition::{Edition, EDITIONS};
 pub use judge::{judge, Verdict};
 pub use log::{replay, replay_fully, Answer, Outcome};
 pub use rate::{find_pwm, find_spi, rate_pwm, rate_spi, Pair};
+pub use shrink::shrink;
+pub use sign::sign;
+pub use stream::Stream;
+pub use writer::write;

@@ -41,6 +41,8 @@ pub const TRANSCRIPT_LENGTH_WRONG: Refusal = 17;
 /// An encoder's CNFG with MODE 1, where there is only quadrature.
 pub const MODE_GONE: Refusal = 18;
 
+/// Bytes that are no state of a stream.
+pub const NO_STATE: Refusal = 19;
 /// A text that is none of the dump's.
 pub const NO_DUMP: Refusal = 20;
 

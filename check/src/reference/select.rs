@@ -60,7 +60,7 @@ impl Select {
         Ok(Select {
             value,
             encoders: bit(PORT_ENCODER),
-            pwms: first * pin_place(0) | second * pin_place(1) | third * pin_place(2),
+            pwms: first * pin_place(0) + second * pin_place(1) + third * pin_place(2),
             i2c: bit(PORT_I2C) == 1,
         })
     }

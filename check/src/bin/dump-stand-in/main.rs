@@ -59,7 +59,7 @@ fn answer(request: &Request, mistake: Mistake) -> Answer {
             let entries = reader::entries(mistake, &request.log, out);
             given(mistake, entries, out)
         }
-        Call::Replay | Call::Judge => return request.right_answer(),
+        _ => return request.right_answer(),
     };
     match mistake {
         Mistake::ByteBehindOutput => area.guard_behind().map(|byte| *byte ^= 1),

@@ -54,7 +54,7 @@ fn answer(request: &Request, mistake: Option<Mistake>) -> Answer {
         Call::Replay => replay::replay(mistake, &request.log, area.out()),
         Call::Judge => judge::judge(mistake, &request.log, &request.beside),
         // The stand-in for these is another.
-        Call::Dump | Call::DumpRead => return request.right_answer(),
+        _ => return request.right_answer(),
     };
     let touched = match mistake {
         Some(Mistake::ByteBehindOutput) => area.guard_behind(),

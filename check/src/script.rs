@@ -1,0 +1,201 @@
+//! What is asked of a stream: a script of calls, in order.
+//!
+//! Each is four numbers of 64 bits, little-endian. The output has, for each call, 8 bytes for what it answered, so
+//! many bytes that are lent to it as its output, and 8 that nobody may touch. The records stand in the log. The
+//! state of a stream has as many bytes as the library says; a script says how many more or fewer are lent.
+
+use crate::reference::refusal::{Refusal, NO_STATE, OUTPUT_TOO_SHORT};
+use crate::reference::Stream;
+
+#[derive(Debug, Clone, Copy, PartialEq, Eq)]
+pub enum Ask {
+    /// A new state of so many bytes more, less so many, and its start: edition, more, fewer.
+    Start {
+        edition: u64,
+        more: u64,
+        fewer: u64,
+    },
+    /// The record bytes from here, so many, and the room for readings.
+    Chunk {
+        from: u64,
+        len: u64,
+        room: u64,
+    },
+    End,
+    Applied,
+    /// The bytes of the state are copied to another place, and the ones here become others.
+    Move,
+    /// The same three with a state that is one byte too short.
+    ShortChunk {
+        from: u64,
+        len: u64,
+        room: u64,
+    },
+    ShortEnd,
+    ShortApplied,
+}
+
+pub const ASK_LEN: usize = 32;
+const WORD: usize = 8;
+const GUARD: usize = 8;
+
+impl Ask {
+    pub fn to_bytes(self) -> [u8; ASK_LEN] {
+        let numbers = match self {
+            Ask::Start {
+                edition,
+                more,
+                fewer,
+            } => [0, edition, more, fewer],
+            Ask::Chunk { from, len, room } => [1, from, len, room],
+            Ask::End => [2, 0, 0, 0],
+            Ask::Applied => [3, 0, 0, 0],
+            Ask::Move => [4, 0, 0, 0],
+            Ask::ShortChunk { from, len, room } => [5, from, len, room],
+            Ask::ShortEnd => [6, 0, 0, 0],
+            Ask::ShortApplied => [7, 0, 0, 0],
+        };
+        let mut bytes = [0; ASK_LEN];
+        for (place, number) in bytes.chunks_exact_mut(8).zip(numbers) {
+            place.copy_from_slice(&number.to_le_bytes());
+        }
+        bytes
+    }
+
+    fn from_bytes(bytes: &[u8]) -> Ask {
+        let number =
+            |at: usize| u64::from_le_bytes(bytes[8 * at..][..8].try_into().expect("eight bytes"));
+        let [kind, a, b, c] = [0, 1, 2, 3].map(number);
+        match kind {
+            0 => Ask::Start {
+                edition: a,
+                more: b,
+                fewer: c,
+            },
+            1 => Ask::Chunk {
+                from: a,
+                len: b,
+                room: c,
+            },
+            2 => Ask::End,
+            3 => Ask::Applied,
+            4 => Ask::Move,
+            5 => Ask::ShortChunk {
+                from: a,
+                len: b,
+                room: c,
+            },
+            6 => Ask::ShortEnd,
+            _ => Ask::ShortApplied,
+        }
+    }
+
+    fn room(self) -> usize {
+        match self {
+            Ask::Chunk { room, .. } | Ask::ShortChunk { room, .. } => room as usize,
+            _ => 0,
+        }
+    }
+}
+
+pub fn asks(script: &[u8]) -> impl Iterator<Item = Ask> + '_ {
+    script.chunks_exact(ASK_LEN).map(Ask::from_bytes)
+}
+
+/// How long the output of a script is.
+pub fn out_len(asks: &[Ask]) -> usize {
+    asks.iter().map(|ask| WORD + ask.room() + GUARD).sum()
+}
+
+/// What answers a script.
+pub trait Streams {
+    fn start(&mut self, edition: u64, short: bool) -> Refusal;
+    fn chunk(&mut self, chunk: &[u8], out: &mut [u8]) -> (Refusal, u64);
+    fn end(&mut self) -> Refusal;
+    fn applied(&mut self) -> u64;
+
+    /// The state lies elsewhere from now on.
+    fn moved(&mut self) {}
+
+    /// The answer to a call whose state is too short.
+    fn short_chunk(&mut self, _chunk: &[u8], _out: &mut [u8]) -> (Refusal, u64) {
+        (NO_STATE, 0)
+    }
+
+    fn short_end(&mut self) -> Refusal {
+        NO_STATE
+    }
+
+    fn short_applied(&mut self) -> u64 {
+        0
+    }
+}
+
+/// By the reference. Without a start there is no state.
+#[derive(Default)]
+pub struct Right(Option<Stream>);
+
+impl Streams for Right {
+    fn start(&mut self, edition: u64, short: bool) -> Refusal {
+        let started = Stream::start(edition).and_then(|stream| match short {
+            true => Err(OUTPUT_TOO_SHORT),
+            false => Ok(stream),
+        });
+        match started {
+            Ok(stream) => {
+                self.0 = Some(stream);
+                0
+            }
+            Err(refusal) => {
+                self.0 = None;
+                refusal
+            }
+        }
+    }
+
+    fn chunk(&mut self, chunk: &[u8], out: &mut [u8]) -> (Refusal, u64) {
+        self.0
+            .as_mut()
+            .map_or((NO_STATE, 0), |stream| stream.chunk(chunk, out))
+    }
+
+    fn end(&mut self) -> Refusal {
+        self.0.as_ref().map_or(NO_STATE, Stream::end)
+    }
+
+    fn applied(&mut self) -> u64 {
+        self.0.as_ref().map_or(0, Stream::applied)
+    }
+}
+
+/// Plays the script, and tells how many calls that was.
+pub fn run(stream: &mut impl Streams, log: &[u8], script: &[u8], out: &mut [u8]) -> u64 {
+    let (mut rest, mut number) = (out, 0);
+    for ask in asks(script) {
+        let (word, behind) = std::mem::take(&mut rest).split_at_mut(WORD);
+        let (room, behind) = behind.split_at_mut(ask.room());
+        let bytes = |from: u64, len: u64| &log[from as usize..][..len as usize];
+        let both = |(refusal, readings): (Refusal, u64)| u64::from(refusal) | readings << 8;
+        let answered = match ask {
+            Ask::Start {
+                edition,
+                more,
+                fewer,
+            } => stream.start(edition, fewer > more).into(),
+            Ask::Chunk { from, len, .. } => both(stream.chunk(bytes(from, len), room)),
+            Ask::End => stream.end().into(),
+            Ask::Applied => stream.applied(),
+            Ask::Move => {
+                stream.moved();
+                0
+            }
+            Ask::ShortChunk { from, len, .. } => both(stream.short_chunk(bytes(from, len), room)),
+            Ask::ShortEnd => stream.short_end().into(),
+            Ask::ShortApplied => stream.short_applied(),
+        };
+        word.copy_from_slice(&answered.to_le_bytes());
+        rest = &mut behind[GUARD..];
+        number += 1;
+    }
+    number
+}
