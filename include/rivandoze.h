@@ -12,16 +12,16 @@
 extern "C" {
 #endif
 
-/* The refusals of papers 01 and 02. 1 to 11 and 16 come from a replay, 12 to 15 from the rate calls, 17 and a log's own from the judge, 6
- * and a log's own from the dump, 6 and 20 from its reader. */
+/* The refusals of papers 01 and 02. 1 to 11, 16 and 18 come from a replay, 12 to 15 from the rate calls, 17 and a log's own from the judge, 6
+ * and a log's own from the sign, the dump and from shrinking, 6 and 20 from the dump's reader, 1 and 4 to 8 from the writer. */
 enum rvz_refusal {
     RVZ_OK = 0,                   /* Nothing is refused. */
     RVZ_LOG_TOO_LONG = 1,         /* The log is longer than 32,768 bytes. */
     RVZ_LOG_TOO_SHORT = 2,        /* The log is shorter than its 8-byte trailer. */
     RVZ_WRONG_MARK = 3,           /* The trailer does not end in the mark 51 4D. */
     RVZ_WRONG_EDITION = 4,        /* The trailer's edition is none of 1 to 4. */
-    RVZ_WRONG_DISTANCE = 5,       /* The trailer's distance is no multiple of 16, or reaches back before the log. */
-    RVZ_OUTPUT_TOO_SHORT = 6,     /* The output has no room: less than 8 bytes for each read, or for the whole dump or its entries. */
+    RVZ_WRONG_DISTANCE = 5,       /* The trailer's distance is no multiple of 16, or reaches back before the log; records to write likewise. */
+    RVZ_OUTPUT_TOO_SHORT = 6,     /* The output has no room: less than 8 bytes for each read, or for the whole dump, its entries, the stretches or the log. */
     RVZ_NO_SUCH_RECORD = 7,       /* The record names no kind, block, channel, register or access, or a byte that must be 0 is not. */
     RVZ_VALUE_OUT_OF_RANGE = 8,   /* The value is outside the range of its register or record. */
     RVZ_NOT_ROUTED = 9,           /* The record writes to, or moves the pins of, a channel that is not routed. */
@@ -88,6 +88,74 @@ static inline unsigned rvz_verdict_of(uint64_t answer) { return (unsigned)(answe
 /* The number of the first reading, 0 being the first, that differs from the replay's; 0 unless the verdict is RVZ_DIFFERENT. */
 static inline uint64_t rvz_first_difference(uint64_t answer) { return answer >> 16; }
 
+/* ---- Writing logs ---- */
+
+/* No log is longer, in bytes: 2,047 records of RVZ_RECORD_BYTES, 8 bytes of notes and the trailer's 8. */
+enum { RVZ_LOG_BYTES = 32768, RVZ_RECORD_BYTES = 16 };
+
+/* Makes a log of an edition: the `notes_len` bytes at `notes`, which no replay looks at, the `records_len` bytes of records at `records`, and a
+ * trailer that points back over them, in this order at the front of `out`, which has room for `out_len` bytes. rvz_log_length(answer)
+ * tells how many were written, and no other byte of `out` changes. Refusals, in this order, with nothing written: 4 for an edition that
+ * there is none of; 5 if `records_len` is no multiple of 16; 7 or 8 if a replay of that edition would refuse a record so, whose index is
+ * rvz_refused_record(answer), the first if there are several; 1 if the log were longer than RVZ_LOG_BYTES; 6 if it does not fit. What
+ * depends on the records before (9, 10, 11, 16, 18) only a replay tells. RVZ_LOG_BYTES of output are enough for every log. `out` may not overlap
+ * `notes` or `records`, and none may be NULL, even at length 0. */
+uint64_t rvz_write(uint64_t edition, const uint8_t *notes, size_t notes_len, const uint8_t *records, size_t records_len, uint8_t *out,
+                   size_t out_len);
+
+/* The length of the log; 0 if refused by another number than 7 or 8. */
+static inline uint64_t rvz_log_length(uint64_t answer) { return answer >> 8; }
+
+/* The index of the record that 7 or 8 refuses, 0 being the first (modulo 2^56, which 2^60 bytes of records would exceed). */
+static inline uint64_t rvz_refused_record(uint64_t answer) { return answer >> 8; }
+
+/* Puts a record's 16 bytes at `record`. Byte 4 is the bank where the edition has two, else 0. */
+static inline void rvz_put_record(uint8_t *record, unsigned kind, unsigned block, unsigned channel, unsigned reg, unsigned bank, uint64_t value)
+{
+    int i;
+    record[0] = (uint8_t)kind;
+    record[1] = (uint8_t)block;
+    record[2] = (uint8_t)channel;
+    record[3] = (uint8_t)reg;
+    record[4] = (uint8_t)bank;
+    record[5] = record[6] = record[7] = 0;
+    for (i = 0; i < 8; i++) record[8 + i] = (uint8_t)(value >> (8 * i));
+}
+
+/* ---- The sign ---- */
+
+/* Lists each longest stretch of each encoder in which it counts in quadrature (routed, EN 1, RST 0, MODE 0) and nothing resets, reconfigures or
+ * reroutes it, and tells of each whether its pins settle the direction in which the shaft travelled: an entry of RVZ_STRETCH_BYTES bytes in
+ * `out`, in the order of their first records. No other byte of `out` changes. Refusals: 1 to 5 as of a replay, then 6 if `out_len` is below
+ * RVZ_STRETCH_BYTES for each record whose first byte is 3; nothing is written in these. A refused record's number (7 to 11, 16, 18) is told, and
+ * the stretches of the records before it are written and counted all the same. docs/SIGN.md says what a verdict says, and what it cannot.
+ * `log` and `out` may not overlap, and neither may be NULL, even at length 0. */
+uint64_t rvz_sign(const uint8_t *log, size_t log_len, uint8_t *out, size_t out_len);
+
+/* RVZ_SIGN_BYTES are enough for every log. */
+enum { RVZ_STRETCH_BYTES = 32, RVZ_SIGN_BYTES = 65504 };
+
+enum rvz_direction {
+    RVZ_OPEN = 0,     /* Motions of differing direction fit the pins. */
+    RVZ_FORWARD = 1,  /* Every motion that fits the pins goes forward: A leads. */
+    RVZ_BACKWARD = 2, /* Every one goes backward. */
+    RVZ_STILL = 3     /* Every one ends where it began. */
+};
+
+/* How many stretches are listed, also when a record is refused. */
+static inline uint64_t rvz_stretches(uint64_t answer) { return answer >> 8; }
+
+/* Of stretch number `index` of an output, 0 being the first: its bank, its encoder, its rvz_direction, the numbers of its first and its last
+ * pins record among the log's records, how many pins records it has, the counted steps, and how often both pins changed together. */
+static inline unsigned rvz_stretch_bank(const uint8_t *out, size_t index) { return out[RVZ_STRETCH_BYTES * index]; }
+static inline unsigned rvz_stretch_encoder(const uint8_t *out, size_t index) { return out[RVZ_STRETCH_BYTES * index + 1]; }
+static inline unsigned rvz_stretch_direction(const uint8_t *out, size_t index) { return out[RVZ_STRETCH_BYTES * index + 2]; }
+static inline uint64_t rvz_stretch_first(const uint8_t *out, size_t index) { return rvz_reading(out, 4 * index) >> 32; }
+static inline uint64_t rvz_stretch_last(const uint8_t *out, size_t index) { return rvz_reading(out, 4 * index + 1) & 0xFFFFFFFF; }
+static inline uint64_t rvz_stretch_pins(const uint8_t *out, size_t index) { return rvz_reading(out, 4 * index + 1) >> 32; }
+static inline int64_t rvz_stretch_steps(const uint8_t *out, size_t index) { return (int64_t)rvz_reading(out, 4 * index + 2); }
+static inline uint64_t rvz_stretch_doubles(const uint8_t *out, size_t index) { return rvz_reading(out, 4 * index + 3); }
+
 /* ---- Waveforms ---- */
 
 /* No dump is longer, in bytes. */
@@ -119,6 +187,19 @@ static inline uint64_t rvz_entry_time(const uint8_t *out, size_t index) { return
 static inline unsigned rvz_entry_bank(const uint8_t *out, size_t index) { return out[RVZ_ENTRY_BYTES * index + 8]; }
 static inline unsigned rvz_entry_encoder(const uint8_t *out, size_t index) { return out[RVZ_ENTRY_BYTES * index + 9]; }
 static inline unsigned rvz_entry_pins(const uint8_t *out, size_t index) { return out[RVZ_ENTRY_BYTES * index + 10]; }
+
+/* ---- Smaller logs ---- */
+
+/* Writes a log that replays, without the records that change nothing, into `out`, which has room for `out_len` bytes; rvz_smaller_length(answer)
+ * tells how many were written, and no other byte of `out` changes. Dropped are ticks records with value 0, and pins records equal to that
+ * encoder's previous pins record with no write to its CNFG or its own bank's SELECT between. The smaller log has the same notes, edition,
+ * readings and end state; shrinking it again changes no byte; it is never longer, so that `log_len` bytes of room are enough. Refusals: the
+ * log's own, as of a replay whose output is long enough, then 6 exactly if the smaller log does not fit; nothing is written in these.
+ * `log` and `out` may not overlap, and neither may be NULL, even at length 0. */
+uint64_t rvz_shrink(const uint8_t *log, size_t log_len, uint8_t *out, size_t out_len);
+
+/* The length of the smaller log; 0 if refused. */
+static inline uint64_t rvz_smaller_length(uint64_t answer) { return answer >> 8; }
 
 /* ---- Rates ---- */
 

@@ -9,19 +9,23 @@ work=$(mktemp -d)
 trap 'rm -rf "$work"' EXIT
 
 # A row, the most instructions that the second program may take, and the most that the library may.
-limits='pins of one encoder|100|84
-pins of ten encoders|100|84
-pins, changing bank|100|84
+limits='pins of one encoder|100|86
+pins of ten encoders|100|86
+pins, changing bank|100|86
 reads|70|60
 reads, changing bank|70|60
-a mix, waits to 20 ticks|100|92
-a mix, waits of any length|100|87
-a mix over both banks|110|99
-waits only, 20 PWM channels|950|912
-waits only, 40 PWM channels|1650|1590
-reads, judged|75|74
-a mix, waits to 20 ticks, judged|100|96
-the finder, a request|80|58'
+a mix, waits to 20 ticks|100|95
+a mix, waits of any length|100|90
+a mix over both banks|110|102
+waits only, 20 PWM channels|950|940
+waits only, 40 PWM channels|1650|1630
+reads, judged|80|74
+a mix, waits to 20 ticks, judged|100|99
+the finder, a request|80|58
+pins, changing bank, dumped|150|171
+a mix over both banks, dumped|130|153
+pins, changing bank, signed|135|191
+a mix over both banks, signed|125|160'
 
 # The mix again: the most times as many instructions of the library when it is judged as when it is replayed.
 judged_by_replayed=1.30

@@ -5,7 +5,9 @@
 #   tests/compare.sh seconds N                      logs by chance for N seconds
 #   tests/compare.sh dump                           the dump and its reader, which tests/dump.sh runs
 #   tests/compare.sh dump-seconds N                 the same by chance for N seconds
-#   tests/compare.sh rerun CALL FILE OUT PATTERN PLACE
+#   tests/compare.sh write, shrink, sign            these calls, which tests/write.sh, tests/shrink.sh and tests/sign.sh run
+#   tests/compare.sh write-seconds N                and likewise of the other two
+#   tests/compare.sh rerun CALL FILE OUT PATTERN PLACE EDITION
 #                                                   one log again, as a failed test has printed it
 # SEED chooses the logs. Logs that fail are written to target/failed.
 set -u
@@ -20,10 +22,11 @@ seed=${SEED:-$(date +%s)}
 programs=target/check/release
 # What the comparison's modes begin with: `dump-` where they are the dump's.
 mode=
-wrapped=(-Wl,--wrap=rvz_replay,--wrap=rvz_judge,--wrap=rvz_dump,--wrap=rvz_dump_read check/compare/wrong.c)
+wrapped=(-Wl,--wrap=rvz_replay,--wrap=rvz_judge,--wrap=rvz_dump,--wrap=rvz_dump_read,--wrap=rvz_write,--wrap=rvz_shrink,--wrap=rvz_sign check/compare/wrong.c)
 
 build_driver() {
-    $cc -std=c99 -O2 -Wall -Wextra -Wpedantic -Werror -Iinclude "${@:2}" -o "$1" check/compare/driver.c target/staticlib/librivandoze.a
+    $cc -std=c99 -O2 -Wall -Wextra -Wpedantic -Werror -DWITH_WRITE -DWITH_SHRINK -DWITH_SIGN -Iinclude "${@:2}" -o "$1" check/compare/driver.c \
+        target/staticlib/librivandoze.a
 }
 
 build() {
@@ -167,6 +170,34 @@ watched() {
     seen_by valgrind 'depends on uninitialised value' uses-unset-memory "${valgrind[@]}" "$work/wrong"
 }
 
+# call NAME MISTAKES: another call against the second program, under the tools that watch memory too, and so many mistakes that are seen.
+call() {
+    mode=$1-
+    beside against "$1" "$1-full" "${runner[@]}" "$work/driver"
+    beside gives "$1: a driver without a mistake is let pass" '0 0 0' "$1-short" "$programs/call-stand-in" none
+    local mistake mistakes
+    mapfile -t mistakes < <("$programs/call-stand-in" list "$1")
+    same "$1: there are mistakes to make" "$2" ${#mistakes[@]}
+    for mistake in "${mistakes[@]}"; do
+        beside gives "$1: a driver with the mistake $mistake is seen" '1 1 0' "$1-short" "$programs/call-stand-in" "$mistake"
+    done
+    must "$1: the driver builds with a library that touches what it may not" build_driver "$work/wrong" "${wrapped[@]}"
+    ulimit -c 0
+    local wrong
+    for wrong in "$1"-{{reads,writes}-{before,behind}-output,reads-{before,behind}-input,writes-input}; do
+        beside fenced "$wrong" "${runner[@]}" "$work/wrong"
+    done
+    local address=(-g -fsanitize=undefined,address -fno-sanitize-recover=all -static-lib{asan,ubsan,gcc})
+    must "$1: the driver builds under the sanitizers" build_driver "$work/address" "${address[@]}"
+    need_system64
+    must "$1: the drivers can be watched" make_system64 "$work"/{driver,address}
+    export ASAN_OPTIONS=detect_leaks=0:color=never
+    beside against "$1 under AddressSanitizer" "$1-few" "${system[@]}" "$work/address"
+    beside against "$1 under valgrind" "$1-few" "${system[@]}" valgrind --quiet --error-exitcode=9 --exit-on-first-error=yes --leak-check=full \
+        "$work/driver"
+    told
+}
+
 # The dump and its reader, in the same ways; what the tools see at all is told by the others.
 dumps() {
     mode=dump-
@@ -213,7 +244,19 @@ dump)
     build
     dumps
     ;;
-seconds | dump-seconds)
+write)
+    build
+    call write 58
+    ;;
+shrink)
+    build
+    call shrink 46
+    ;;
+sign)
+    build
+    call sign 52
+    ;;
+seconds | dump-seconds | write-seconds | shrink-seconds | sign-seconds)
     build
     "$programs/compare" "$1" "${2:?a number of seconds}" "$seed" target/failed "${runner[@]}" "$work/driver" || failed=1
     ;;

@@ -30,6 +30,12 @@ build() {
     must 'examples: verdict.c is C99 by gcc' $cc "${strict[@]}" -Iinclude -o "$work/verdict" examples/verdict.c target/staticlib/librivandoze.a
     must 'examples: verdict.c is C99 by clang' "${clang[@]}" "${strict[@]}" -Iinclude -o "$work/verdict-clang" examples/verdict.c target/staticlib/librivandoze.a
     must 'examples: verdict.c is C++ by g++' g++ "${cxx[@]}" examples/verdict.c
+    must 'examples: archive.c is C99 by gcc' $cc "${strict[@]}" -Iinclude -o "$work/archive" examples/archive.c target/staticlib/librivandoze.a
+    must 'examples: archive.c is C99 by clang' "${clang[@]}" "${strict[@]}" -Iinclude -o "$work/archive-clang" examples/archive.c target/staticlib/librivandoze.a
+    must 'examples: archive.c is C++ by g++' g++ "${cxx[@]}" examples/archive.c
+    must 'examples: record.c is C99 by gcc' $cc "${strict[@]}" -Iinclude -o "$work/record" examples/record.c target/staticlib/librivandoze.a
+    must 'examples: record.c is C99 by clang' "${clang[@]}" "${strict[@]}" -Iinclude -o "$work/record-clang" examples/record.c target/staticlib/librivandoze.a
+    must 'examples: record.c is C++ by g++' g++ "${cxx[@]}" examples/record.c
 }
 
 # scans SCAN NAME LOG: what it prints and how it ends against the file beside the log.
@@ -59,16 +65,17 @@ transcripts() {
     for transcript in examples/transcripts/*.bin; do
         name=$(basename "$transcript" .bin)
         log=examples/logs/${name%-*}.log
-        same "examples: verdict of $name" "$(cat "${transcript%.bin}.out") status 0" "$(run64 "$work/verdict" "$log" "$transcript") status $?"
+        same "examples: verdict of $name" "$(cat "${transcript%.bin}.out" "${log%.log}.sign") status 0" "$(run64 "$work/verdict" "$log" "$transcript") status $?"
         same "examples: rvz judge of $name" "${name#*-}" "$(run64 target/bin/rvz judge "$transcript" <"$log" | cut -d ' ' -f 1)"
         [[ $name == *-same || $name == *-both ]] || continue
         same "examples: $name has the second program's readings" "$("$second" <"$log" | grep -v applied | xargs)" \
             "$(od -An -v -t u8 -w8 --endian=little "$transcript" | xargs)"
     done
-    same 'examples: verdict of two transcripts' "$(cat examples/transcripts/turns-{same,negated}.out)" \
+    same 'examples: verdict of two transcripts' "$(cat examples/transcripts/turns-{same,negated}.out examples/logs/turns.sign)" \
         "$(run64 "$work/verdict-clang" examples/logs/turns.log examples/transcripts/turns-{same,negated}.bin)"
     same 'examples: verdict of a transcript of another log' \
-        'examples/transcripts/whole-same.bin: refused by 17: it has not 8 bytes for each reading of the log status 1' \
+        "examples/transcripts/whole-same.bin: refused by 17: it has not 8 bytes for each reading of the log
+$(cat examples/logs/turns.sign) status 1" \
         "$(run64 "$work/verdict" examples/logs/turns.log examples/transcripts/whole-same.bin) status $?"
     same 'examples: verdict by a log that is refused' \
         "examples/transcripts/whole-same.bin: refused by 9, which is the log's own refusal status 1" \
@@ -77,6 +84,61 @@ transcripts() {
     same 'examples: verdict of no file' 2 $?
     run64 "$work/verdict" examples/logs/turns.log 2>"$work/out"
     same 'examples: verdict without a transcript' '2 usage: verdict LOG TRANSCRIPT..' "$? $(cat "$work/out")"
+}
+
+# The smaller log of each sample: of `idle` the sample `idle-smaller`, of every other log itself, and of a refused one nothing. The program's
+# is the same.
+archives() {
+    local log name wanted size
+    for log in examples/logs/*.log; do
+        name=$(basename "$log" .log)
+        rm -f "$work/smaller"
+        if [[ $name == refused-* ]]; then
+            same "examples: archive of $name" "refused $(run64 target/bin/rvz <"$log" | sed -n 's/.*refused //p') status 1 no file" \
+                "$(run64 "$work/archive" "$log" "$work/smaller" 2>&1) status $? $([ -e "$work/smaller" ] || echo no file)"
+            continue
+        fi
+        wanted=$log
+        [ "$name" != idle ] || wanted=examples/logs/idle-smaller.log
+        size=$(wc -c <"$wanted")
+        same "examples: archive of $name" "$size of $(wc -c <"$log") bytes, the same readings status 0" \
+            "$(run64 "$work/archive" "$log" "$work/smaller") status $?"
+        cmp -s "$wanted" "$work/smaller"
+        same "examples: the smaller log of $name" 0 $?
+        run64 target/bin/rvz shrink <"$log" | cmp -s "$wanted" -
+        same "examples: rvz shrink of $name" 0 $?
+    done
+    same 'examples: archive, by clang, of idle' '280 of 376 bytes, the same readings' \
+        "$(run64 "$work/archive-clang" examples/logs/idle.log "$work/smaller")"
+    run64 "$work/archive" examples/logs/idle.log 2>"$work/out"
+    same 'examples: archive without a file to write' '2 usage: archive LOG SMALLER' "$? $(cat "$work/out")"
+}
+
+# What record.c makes, byte for byte against the second program's log of the same text, and what a replay reads in it.
+recorded() {
+    local record
+    for record in "$work/record" "$work/record-clang"; do
+        rm -f "$work/made"
+        same "examples: $(basename "$record") makes a log" '162 bytes, 8 records status 0' "$(run64 "$record" 3 "$work/made") status $?"
+        "$second" from-text <<'TEXT' | cmp -s - "$work/made"
+note "one turn, made by record.c"
+write select 40960
+write encoder 3 cnfg 1
+pins encoder 3 0
+pins encoder 3 1
+pins encoder 3 3
+pins encoder 3 2
+pins encoder 3 0
+read encoder 3 cntr
+TEXT
+        same "examples: $(basename "$record") makes the second program's bytes" 0 $?
+    done
+    same 'examples: a replay of what record.c made' $'4\napplied 8 refused 0' "$(run64 target/bin/rvz <"$work/made")"
+    rm -f "$work/made"
+    same 'examples: record of an encoder whose SELECT is none' 'refused by 8: record 0 status 1' "$(run64 "$work/record" 10 "$work/made") status $?"
+    same 'examples: what is refused is not written' no "$([ -e "$work/made" ] && echo yes || echo no)"
+    run64 "$work/record" 3x "$work/made" 2>"$work/out"
+    same 'examples: record of no number' '2 usage: record ENCODER FILE' "$? $(cat "$work/out")"
 }
 
 other_files() {
@@ -136,6 +198,8 @@ readme() {
 build
 samples
 transcripts
+archives
+recorded
 other_files
 installed
 readme

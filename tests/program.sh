@@ -195,11 +195,199 @@ judge_usage() {
     same 'program: judge with two files is the usage' "$usage" "$(rvz judge "$work/log" "$work/log" </dev/null)"
 }
 
+# shrinks NAME: what `rvz shrink` writes for the log at hand is the log at $work/wanted, and nothing is said.
+shrinks() {
+    run64 target/bin/rvz shrink <"$work/log" >"$work/smaller" 2>"$work/said"
+    cmp -s "$work/wanted" "$work/smaller"
+    same "program: shrink, $1" '0 ' "$? $(cat "$work/said")"
+}
+
+# smaller_is TEXT..: the smaller log that is wanted, one record an argument.
+smaller_is() {
+    printf '%s\n' "$@" | "$second" from-text >"$work/wanted"
+}
+
+# unshrinkable NAME WANTED: a refusal is told on standard error, and standard output stays empty.
+unshrinkable() {
+    run64 target/bin/rvz shrink <"$work/log" >"$work/smaller" 2>"$work/said"
+    same "program: shrink, $1" "$2, 0 bytes" "$(cat "$work/said"), $(wc -c <"$work/smaller") bytes"
+}
+
+shrink_by_hand() {
+    local pair=('write select 0xAA' 'write encoder 0 cnfg 1' 'write encoder 1 cnfg 1')
+    printf '%s\n' 'ticks 0' 'ticks 1' 'ticks 0' | log_of
+    smaller_is 'ticks 1'
+    shrinks 'ticks of 0'
+    printf '%s\n' "${pair[@]}" 'pins encoder 0 2' 'pins encoder 0 2' 'read encoder 0 cntr' 'pins encoder 0 2' 'pins encoder 1 2' | log_of
+    smaller_is "${pair[@]}" 'pins encoder 0 2' 'read encoder 0 cntr' 'pins encoder 1 2'
+    shrinks 'pins that repeat, twice, and another encoder'
+    printf '%s\n' "${pair[@]}" 'pins encoder 0 2' 'pins encoder 0 3' 'pins encoder 0 2' | log_of
+    cp "$work/log" "$work/wanted"
+    shrinks 'pins equal to the last but one'
+    printf '%s\n' "${pair[@]}" 'pins encoder 0 2' 'pins encoder 1 2' 'write encoder 0 cnfg 1' 'pins encoder 0 2' 'pins encoder 1 2' | log_of
+    smaller_is "${pair[@]}" 'pins encoder 0 2' 'pins encoder 1 2' 'write encoder 0 cnfg 1' 'pins encoder 0 2'
+    shrinks 'a write to one CNFG, of the value that was there'
+    printf '%s\n' "${pair[@]}" 'pins encoder 0 2' 'pins encoder 1 2' 'write select 0xAA' 'pins encoder 0 2' 'pins encoder 1 2' | log_of
+    cp "$work/log" "$work/wanted"
+    shrinks 'a write to SELECT, of the value that was there'
+    printf '%s\n' 'note "kept"' 'ticks 0' 'ticks 0' | log_of
+    smaller_is 'note "kept"'
+    shrinks 'notes, and no record left'
+    printf '' | log_of
+    cp "$work/log" "$work/wanted"
+    shrinks 'the bare trailer'
+    { printf 'note "12345678"\n'; yes 'ticks 0' | head -n 2047; } | log_of
+    smaller_is 'note "12345678"'
+    shrinks 'a log of 32,768 bytes, all dropped'
+    { printf 'note "12345678"\n'; yes 'ticks 1' | head -n 2047; } | log_of
+    cp "$work/log" "$work/wanted"
+    shrinks 'a log of 32,768 bytes, all kept'
+
+    : >"$work/log"
+    unshrinkable 'no log' 'refused 2'
+    printf 'read select\nread i2c go\nticks 0\n' | log_of
+    unshrinkable 'a refused record' 'refused 7 record 1'
+    printf 'pins encoder 0 0\n' | log_of
+    unshrinkable 'the first record refused' 'refused 9 record 0'
+    head -c 32769 /dev/zero >"$work/log"
+    unshrinkable 'a log that is too long' 'refused 1'
+    same 'program: the usage names shrink' 1 "$(rvz help </dev/null | grep -c '^ *rvz shrink ')"
+    same 'program: shrink with a file is the usage' "$(rvz help </dev/null)" "$(rvz shrink "$work/log" </dev/null)"
+}
+
+# Logs by chance: the smaller log has the same readings, and shrinking it again changes no byte.
+shrink_by_chance() {
+    local i dropped=0
+    for i in {1..40}; do
+        "$second" generate $((seed + i)) 600 4294967295 0 >"$work/log"
+        run64 target/bin/rvz shrink <"$work/log" >"$work/smaller" 2>"$work/said"
+        if [ -s "$work/said" ]; then
+            same "program: shrink, made log $((seed + i)) is refused as it replays" "$(rvz <"$work/log" | sed -n 's/.* \(refused .*\)/\1/p')" \
+                "$(sed 's/ record.*//' "$work/said")" >"$work/out"
+            [ "$failed" -eq 0 ] || { cat "$work/out"; return; }
+            continue
+        fi
+        run64 target/bin/rvz shrink <"$work/smaller" | cmp -s "$work/smaller" - &&
+            [ "$(rvz <"$work/log" | grep -v applied | cksum)" = "$(rvz <"$work/smaller" | grep -v applied | cksum)" ] && {
+            [ "$(wc -c <"$work/smaller")" -eq "$(wc -c <"$work/log")" ] || dropped=$((dropped + 1))
+            continue
+        }
+        same "program: shrink, made log $((seed + i))" 'the same readings, and once is enough' 'not so'
+        return
+    done
+    same 'program: shrink, some of 40 logs by chance lose records' yes "$([ "$dropped" -gt 0 ] && echo yes)"
+}
+
+# writes NAME WANTED ARGUMENT..: one test of `rvz write` on the records and the notes at hand. Wanted is what standard error has, and the log
+# that is wanted is in $work/log; where something is refused, nothing may be on standard output.
+writes() {
+    local name=$1 wanted=$2
+    shift 2
+    run64 target/bin/rvz write "$@" <"$work/records" >"$work/written" 2>"$work/error"
+    same "program: write, $name" "$wanted" "$(cat "$work/error")"
+    if [ -n "$wanted" ]; then
+        same "program: write, $name: standard output is empty" 0 "$(stat -c %s "$work/written")"
+    else
+        cmp -s "$work/log" "$work/written"
+        same "program: write, $name: the log's bytes" 0 $?
+    fi
+}
+
+# parts: the notes and the records of the log at hand, whose notes are so many bytes.
+parts() {
+    head -c "$1" "$work/log" >"$work/notes"
+    tail -c +$(($1 + 1)) "$work/log" | head -c -8 >"$work/records"
+}
+
+write_by_hand() {
+    printf 'note "bench 3"\nwrite select 10\nwrite encoder 0 cnfg 1\npins encoder 0 0\npins encoder 0 1\nread encoder 0 cntr\n' | log_of
+    parts 7
+    writes 'records behind notes' '' 1 "$work/notes"
+    same 'program: write, and replayed' $'1\napplied 5 refused 0' "$(rvz <"$work/written")"
+    same 'program: write, from a pipe' 0 "$(in_pieces 7 <"$work/records" | run64 target/bin/rvz write 1 <(cat "$work/notes") | cmp - "$work/log" >&2; echo $?)"
+    printf '' | log_of
+    : >"$work/records"
+    writes 'no record and no notes' '' 1
+    for edition in 0 65535 65536 65537 18446744073709551615; do
+        writes "edition $edition" 'refused 4' "$edition"
+    done
+    for word in '' 1x -1 18446744073709551616; do
+        writes "the edition '$word'" 'EDITION is no decimal number from 0 to 18446744073709551615' "$word"
+    done
+    writes 'notes that cannot be opened' "the notes' file cannot be opened" 1 "$work/none"
+}
+
+# The lengths of a run: whole records that are refused or not, and what is no multiple of 16.
+write_by_length() {
+    local len
+    for len in 15 17 31 33 32751 32753; do
+        head -c "$len" /dev/zero >"$work/records"
+        writes "$len bytes" 'refused 5' 1
+        writes "$len bytes of no edition" 'refused 4' 0
+    done
+    for len in 16 32 32752 32784; do
+        head -c "$len" /dev/zero >"$work/records"
+        writes "$len zero bytes" 'refused 7 record 0' 2
+    done
+    yes 'read select' | head -n 2047 | log_of
+    parts 0
+    writes 'the longest run' '' 1
+    { head -c 32736 "$work/records"; printf '\2\0\0\0\0\0\0\0\1\0\0\0\0\0\0\0'; } >"$work/long"
+    cp "$work/long" "$work/records"
+    writes 'the last of 2,047 records is wrong' 'refused 7 record 2046' 1
+    yes 'read select' | head -n 2047 | log_of
+    parts 0
+    printf 12345678 >"$work/notes"
+    { cat "$work/notes" "$work/log"; } >"$work/whole" && mv "$work/whole" "$work/log"
+    writes 'a log of 32,768 bytes' '' 1 "$work/notes"
+    printf 123456789 >"$work/notes"
+    writes 'one byte more' 'refused 1' 1 "$work/notes"
+    writes 'notes without an end' 'refused 1' 1 /dev/zero
+    head -c 16 "$work/records" >>"$work/records.more" && cat "$work/records" >>"$work/records.more" && mv "$work/records.more" "$work/records"
+    writes '2,048 records' 'refused 1' 1
+    cat "$work/records" "$work/records" >"$work/records.more" && mv "$work/records.more" "$work/records"
+    writes '4,096 records' 'refused 1' 1
+    printf '\1\0\0\0\0\0\0\0\0\0\0\0\0\1\0\0' >"$work/records"
+    writes 'a SELECT out of its range' 'refused 8 record 0' 1
+}
+
+# Logs by chance that replay, or are refused by 9 or more: their parts written again give their bytes.
+write_by_chance() {
+    local i refused edition made=0
+    for i in {1..60}; do
+        "$second" generate $((seed + i)) 300 4294967295 20 >"$work/log"
+        refused=$("$second" <"$work/log" | sed -n 's/^applied .* refused //p')
+        [ "$refused" -eq 0 ] || continue
+        edition=$(tail -c 4 "$work/log" | od -An -t u2 -N2 | xargs)
+        parts $(($(stat -c %s "$work/log") - 8 - $(tail -c 8 "$work/log" | od -An -t u4 -N4)))
+        run64 target/bin/rvz write "$edition" "$work/notes" <"$work/records" >"$work/written" 2>"$work/error"
+        made=$((made + 1))
+        cmp -s "$work/log" "$work/written" && continue
+        same "program: write, made log $((seed + i))" '' "$(cat "$work/error") or other bytes"
+        return
+    done
+    [ "$made" -gt 0 ] && echo "ok program: write, $made made logs again"
+}
+
+write_usage() {
+    local usage
+    usage=$(rvz help </dev/null)
+    same 'program: the usage names write' 1 "$(grep -c '^ *rvz write ' <<<"$usage")"
+    same 'program: write without an edition is the usage' "$usage" "$(rvz write </dev/null)"
+    same 'program: write with two files is the usage' "$usage" "$(rvz write 1 "$work/log" "$work/log" </dev/null)"
+}
+
 build
 by_hand
 by_length
 by_chance
+shrink_by_hand
+shrink_by_chance
 judge_by_hand
 judge_by_chance
 judge_usage
+write_by_hand
+write_by_length
+write_by_chance
+write_usage
 exit $failed

@@ -26,17 +26,17 @@ use Rattle.dump_print.specs.declared.Printed.{Printed}
 use Rattle.dump_print.specs.Printed.{printedBy, toError, DumpPrinted}
 
 -- bytes in front of others
-fronts : (s rest : List ℕ) → Counts (length s) (s ++ rest)
+pub fronts : (s rest : List ℕ) → Counts (length s) (s ++ rest)
 fronts s rest = let h : length s ≤ length (s ++ rest) = omega (arith, length-append s rest) in (h, sym (length-take-le (length s) (s ++ rest) h))
 
-put-counts : (a b s : List ℕ) (n : ℕ) → Put a 0 s b n → Counts n b
+pub put-counts : (a b s : List ℕ) (n : ℕ) → Put a 0 s b n → Counts n b
 put-counts a b s n x = let h : n ≤ length b = omega (arith, x .place, put-long a b s 0 n x) in (h, sym (length-take-le n b h))
 
 -- how long the two refusals are
-refused-short : (k : ℕ) → k < 2 ^ 64 → length (refusedText k) ≤ 29
+pub refused-short : (k : ℕ) → k < 2 ^ 64 → length (refusedText k) ≤ 29
 refused-short k h = omega (arith, length-append (refusedWord ++ digitsOf k) (10 ∷ []), length-append refusedWord (digitsOf k), twenty-digits k h)
 
-record-short : (k i : ℕ) → k < 2 ^ 64 → i < 2 ^ 64 → length (refusedRecordText k i) ≤ 57
+pub record-short : (k i : ℕ) → k < 2 ^ 64 → i < 2 ^ 64 → length (refusedRecordText k i) ≤ 57
 record-short k i h l =
     let first = refusedWord ++ digitsOf k in
     omega (arith, length-append (first ++ recordWord ++ digitsOf i) (10 ∷ []), length-append (first ++ recordWord) (digitsOf i), length-append first recordWord, length-append refusedWord (digitsOf k), twenty-digits k h, twenty-digits i l)

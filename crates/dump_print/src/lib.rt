@@ -1,9 +1,8 @@
 // What `rvz dump` writes: a log's dump, for standard output, or its refusal, for standard error.
-use libc::STDERR_FILENO;
 use libc::STDIN_FILENO;
-use libc::STDOUT_FILENO;
 ghost use Prim.Native.Nat.{_≤_};
 ghost use lib.ListN.{length};
+ghost use Rattle.io.specs.Counts.{Counts};
 ghost use Rattle.dump_print.specs.Printed.{DumpPrinted};
 
 // How many bytes, and whether they say a refusal.
@@ -37,27 +36,12 @@ pub fn dump_log(text: &mut [u8], log: &[u8]) -> Printed
     }
 }
 
-// The log on standard input. What is read and written no contract can say. Standard output gets a whole dump or nothing.
-pub fn dump_input(text: &mut [u8])
+// The log on standard input. What is read no contract can say.
+pub fn dump_input(text: &mut [u8]) -> Printed
     requires { ⌜ 25207 ≤ length (now text) ⌝ }
+    ensures { λ r. ⌜ Counts (r .size) (now (text .exit)) ⌝ }
 {
     let mut log = [0u8; 32769];
     let n = io::read_full(STDIN_FILENO, &mut log);
-    let printed = dump_log(text, &log[..n]);
-    let m = printed.size;
-    if printed.refused {
-        io::write_all(STDERR_FILENO, &text[..m]);
-        return;
-    }
-    io::write_all(STDOUT_FILENO, &text[..m]);
-}
-
-// Whether the program's one argument is `dump`.
-pub fn asked() -> bool {
-    if os::arg_count() != 2 {
-        return false;
-    }
-    let mut word = io::buffer();
-    let n = os::arg(1, &mut word);
-    check::same(&word[..n], b"dump")
+    dump_log(text, &log[..n])
 }

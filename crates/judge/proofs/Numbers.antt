@@ -5,12 +5,12 @@ use mathlib.Core.List.{List, [], _∷_, _++_}
 use Prim.Native.Nat.{ℕ, zero, suc, _+_, _*_, _/_, _%_, _^_, _≤_, _<_}
 use native.Mathlib.Omega.{arith}
 use lib.ListN.{length, take, drop, getD}
-use lib.Seq.{drop-cons, getD-take, take-add, take-take}
+use lib.Seq.{getD-take, take-add, take-take}
 use mir.Syntax.{w8}
 use mir.Val.{Fits}
 use Rattle.fold.specs.Output.{bytesOf}
 use Rattle.wire.specs.Bytes.{byte, leOf, leBytes}
-use Rattle.wire.proofs.Numbers.{le-bytes, le-behind}
+use Rattle.wire.proofs.Numbers.{le-bytes, bytes-le, le-behind}
 use Rattle.judge.specs.Judge.{Agree}
 
 abbrev pub Bytes : List ℕ → Type 0
@@ -21,15 +21,6 @@ pub in-slice : (s : List ℕ) → ((i : ℕ) → Fits w8 (getD s i 0)) → Bytes
 in-slice s f i = f i .fits
 
 -- ---- the bytes of a number, and the number of some bytes
-
--- n bytes are those of their number
-bytes-le : (n : ℕ) (s : List ℕ) (at : ℕ) → Bytes s → at + n ≤ length s → leBytes n (leOf n s at) ≡ take n (drop at s)
-unfolding leOf
-bytes-le zero s at b h = refl
-bytes-le (suc n) s at b h =
-    let d : (byte s at + 256 * leOf n s (suc at)) / 256 ≡ leOf n s (suc at) = omega (arith, b at) in
-    let m : (byte s at + 256 * leOf n s (suc at)) % 256 ≡ byte s at = omega (arith, b at) in
-    rw (d, m, bytes-le n s (suc at) b (omega arith), drop-cons s at 0 (omega arith))
 
 -- what the 8 bytes of a number say
 abbrev pub said : ℕ → ℕ

@@ -3,3 +3,6 @@ mod dumps;
 mod judges;
 mod rates;
 mod replays;
+mod shrinks;
+mod signs;
+mod writes;

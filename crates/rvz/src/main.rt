@@ -1,9 +1,11 @@
-// With no argument it replays the log on standard input; with arguments it writes that log's dump, judges a transcript by it, or answers one
-// question about rates. It has no exit status to give, so all it has to say goes to standard output, but for the refusal of a dump: built
-// in one buffer, every byte promised, and written at once. What is read and written no contract can say: `number`, `replay_input`,
-// `judge_input`, `answer` and `main`, which talk to the system, promise no bytes, nor does `usage`, a constant.
+// With no argument it replays the log on standard input; with arguments it writes that log's dump, or the log without the records that change
+// nothing, judges a transcript by it, makes a log of records, or answers one question about rates. It has no exit status to give, so all it has
+// to say goes to standard output, but for the refusal of a dump, of a smaller log or of records: built in one buffer, every byte promised, and
+// written at once. What is read and written no contract can say: `number`, `replay_input`, `judge_input`, `answer`, `write_asked`, `one_word`,
+// `tell` and `main`, which talk to the system, promise no bytes, nor does `usage`, a constant.
 use decimal::Decimal;
 use judge::Verdict;
+use libc::STDERR_FILENO;
 use libc::STDIN_FILENO;
 use libc::STDOUT_FILENO;
 use rate::Found;
@@ -128,11 +130,13 @@ fn usage(text: &mut [u8]) -> usize
         0,
         b"usage: rvz                      replays the log on standard input
        rvz dump                 that log's pins as a value change dump, or 'refused R' on standard error
+       rvz shrink               that log without the records that change nothing, or 'refused R' on standard error
        rvz judge FILE           the transcript in FILE by that log: 'same', 'negated', 'both', 'different I' or 'refused R'
        rvz pwm RATE TOL         the pair for a PWM rate: 'choice C x X period P' or 'refused R'
        rvz spi RATE TOL         the pair for an SPI rate
        rvz pwm-rate CHOICE X    the rate of a PWM pair: '40000000 P', a fraction, or 'refused R'
        rvz spi-rate CHOICE X    the rate of an SPI pair
+       rvz write EDITION [FILE] a log of the records on standard input, behind the notes in FILE, or 'refused R' on standard error
 RATE is in millihertz, thousandths of a hertz: 40125 is 40.125 Hz. TOL is in millionths of RATE
 ",
     )
@@ -205,10 +209,57 @@ fn answer(text: &mut [u8]) -> usize
     say(text, question, number(2), number(3))
 }
 
+// Whether the arguments are `write` and one or two more.
+fn write_asked() -> bool {
+    let words = os::arg_count();
+    if words < 3 {
+        return false;
+    }
+    if words > 4 {
+        return false;
+    }
+    let mut word = io::buffer();
+    let n = os::arg(1, &mut word);
+    check::same(&word[..n], b"write")
+}
+
+// Whether there is one argument, and it is this word.
+fn one_word(wanted: &[u8]) -> bool {
+    if os::arg_count() != 2 {
+        return false;
+    }
+    let mut word = io::buffer();
+    let n = os::arg(1, &mut word);
+    check::same(&word[..n], wanted)
+}
+
+// A refusal goes to standard error: standard output has a whole dump or log, or nothing.
+fn tell(text: &[u8], refused: bool) {
+    if refused {
+        io::write_all(STDERR_FILENO, text);
+        return;
+    }
+    io::write_all(STDOUT_FILENO, text);
+}
+
 fn main() {
     let mut text = [0u8; 43066];
-    if dump_print::asked() {
-        dump_print::dump_input(&mut text);
+    if one_word(b"dump") {
+        let printed = dump_print::dump_input(&mut text);
+        let n = printed.size;
+        tell(&text[..n], printed.refused);
+        return;
+    }
+    if one_word(b"shrink") {
+        let printed = shrink_print::shrink_input(&mut text);
+        let n = printed.size;
+        tell(&text[..n], printed.refused);
+        return;
+    }
+    if write_asked() {
+        let printed = write_print::write_input(&mut text);
+        let n = printed.size;
+        tell(&text[..n], printed.refused);
         return;
     }
     let n = answer(&mut text);
