@@ -158,8 +158,8 @@ static inline uint64_t rvz_stretch_doubles(const uint8_t *out, size_t index) { r
 
 /* ---- Waveforms ---- */
 
-/* No dump is longer, in bytes. */
-enum { RVZ_DUMP_BYTES = 25207 };
+/* No dump is longer, in bytes: proved. The longest that there is has RVZ_LONGEST_DUMP: computed, and tried for each edition. */
+enum { RVZ_DUMP_BYTES = 25207, RVZ_LONGEST_DUMP = 24137 };
 
 /* Writes the pins of a log that replays as a value change dump, IEEE 1364, text form, for waveform viewers: into `out`, which has room for
  * `out_len` bytes; rvz_dump_length(answer) tells how many were written, and no other byte of `out` changes. docs/WAVEFORM.md has the format.
