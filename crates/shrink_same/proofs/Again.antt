@@ -6,12 +6,12 @@ use Prim.Native.Nat.{ℕ, suc, _+_, _-_, _%_}
 use native.Mathlib.Omega.{arith}
 use Rattle.bits.specs.Bits.{bit, rises}
 use Rattle.laws.specs.Each.{mapFrom}
+use Rattle.edition.specs.declared.Edition.{Edition}
 use Rattle.encoder.specs.declared.Encoder.{Encoder}
 use Rattle.encoder.specs.Encoder.{en, rst, mode, kept, place, places, quadrature, clocked, counted, onPins}
 use Rattle.encoder.proofs.Counting.{pins-stored}
 use Rattle.pwm.specs.declared.Pwm.{Pwm}
 use Rattle.pwm.specs.Pwm as pwm
-use Rattle.edition.specs.declared.Edition.{Edition}
 use Rattle.select.specs.Select.{pwmRouted}
 use Rattle.bank.specs.declared.Bank.{Bank}
 use Rattle.bank.specs.Bank.{tickRouted, onTicks}

@@ -135,18 +135,18 @@ showsBy nothing v s = s
 shows-event : (port : Bool) (k i v : ℕ) (r : List ℕ) (before : List (List ℕ)) → shows k i v (r ∷ before) ≡ showsBy (eventAt port k i r) v (shows k i v before)
 unfolding shows showsBy
 shows-event port k i v r before =
-    by (eqb (bankOf r) k) (eqb (byte r 0) 3 && (eqb (byte r 1) 1 && eqb (byte r 2) i)) (eqb (byte r 0) 1 && (eqb (byte r 1) 1 && eqb (byte r 2) i)) (eqb (byte r 0) 1 && (eqb (byte r 1) 0 && eqb (byte r 2) 0))
+    by (eqb (bankOf r) k) (eqb (byte r 0) 3 && (eqb (byte r 1) 1 && eqb (byte r 2) i)) (eqb (byte r 0) 1 && (eqb (byte r 1) 1 && eqb (byte r 2) i)) (eqb (byte r 0) 1 && (eqb (byte r 1) 0 && eqb (byte r 2) 0)) _
   where
     w : ℕ
     w = leOf 8 r 8
 
-    by : (t a b c : Bool) → cond (t && a) (eqb w v) (not ((t && b) || (t && c)) && shows k i v before)
-        ≡ showsBy (cond t (cond a (pins w) (cond b (config w) (cond c (route (encoderRouted port w i)) nothing))) nothing) v (shows k i v before)
-    by true true b c = refl
-    by true false true c = refl
-    by true false false true = refl
-    by true false false false = refl
-    by false a b c = refl
+    by : (t a b c z : Bool) → cond (t && a) (eqb w v) (not ((t && b) || (t && c)) && shows k i v before)
+        ≡ showsBy (cond t (cond a (pins w) (cond b (config w) (cond c (route z) nothing))) nothing) v (shows k i v before)
+    by true true b c z = refl
+    by true false true c z = refl
+    by true false false true z = refl
+    by true false false false z = refl
+    by false a b c z = refl
 
 learns : (o : Edition) (m : List ℕ) (s : State) (r : List ℕ) → Fits m s → dropsBy m (sortOf r) ≡ false → applies (turnOf o s r) ≡ true
     → Fits (learnsBy m (sortOf r)) (leaves s (turnOf o s r))

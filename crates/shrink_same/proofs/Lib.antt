@@ -2,4 +2,5 @@ mod Again
 mod Idle
 mod Runs
 mod Bytes
+mod Longer
 pub mod Proved

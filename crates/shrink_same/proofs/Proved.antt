@@ -1,7 +1,7 @@
 -- The facts of specs/Same.antt. Assumes nothing.
 use mathlib.Core.Path.{_≡_, refl, sym, ap, _∙_, subst}
 use mathlib.Core.Bool.{Bool, true, false, not, cond, _&&_, true≢false, false≢true}
-use mathlib.Core.List.{List, [], _∷_, _++_, reverse}
+use mathlib.Core.List.{List, [], _∷_, _++_, reverse, append-assoc}
 use Prim.Native.Nat.{ℕ, _+_, _*_, _/_, _≤_, _<_}
 use native.Mathlib.Omega.{arith}
 use lib.Dec.{eqb, leb}
@@ -34,7 +34,9 @@ use Rattle.shrink.specs.How.{rule, none, keptIn, smallerIn}
 use Rattle.shrink.proofs.Every.{Sixteen}
 use Rattle.shrink.proofs.Whole.{notes-count, sixteen, shorter, log-ready, log-kept, log-smaller}
 use Rattle.shrink_same.specs.Same.{Same, AllSame, Between, Previous, Exactly, AllExactly, Kept, Stretches}
-use Rattle.shrink_same.proofs.Runs.{same-run, kept-twice, fewer-reads, kept-cut, kept-first, calm-kept, steps-kept, doubles-kept}
+use Rattle.shrink_same.proofs.Runs.{same-run, kept-twice, fewer-reads, kept-cut, kept-first, calm-kept, steps-kept, doubles-kept, steps-again, doubles-again}
+use Rattle.shrink_same.proofs.Longer.{Longer, longer}
+use Rattle.shaft.specs.Shaft.{steps, doubles}
 use Rattle.shrink_same.proofs.Bytes.{is-known, new-trailer, new-records, new-notes}
 
 -- ---- a log that replays, and its trailer
@@ -186,11 +188,14 @@ module _ (o : Edition) (k i : ℕ) (r : List ℕ) (before rs : List (List ℕ)) 
     calm = calm-kept (o .port) k i (r ∷ reverse before) rs (st .calm);
   }
 
-pub stretches : Stretches
-stretches k i log r before rs later room goes is st d =
+-- where the first record stays
+kept-stretch : (k i : ℕ) (log r : List ℕ) (before rs later : List (List ℕ)) (room : ℕ) → replayOf log room .course ≡ going
+    → recordsOf log ≡ before ++ r ∷ rs ++ later → Stretch (editionIn log) k i before r rs → drops (reverse before) r ≡ false → Kept k i log r rs
+kept-stretch k i log r before rs later room goes is st d =
     found-one log room goes (Kept k i log r rs) λ a n e f.
     record {
       before = kept [] before;
+      first = r;
       stay = kept (r ∷ reverse before) rs;
       later = kept (reverse (before ++ r ∷ rs)) later;
       cut =
@@ -200,3 +205,24 @@ stretches k i log r before rs later room goes is st d =
       same-steps = steps-kept k i r (reverse before) rs (st .begins);
       same-doubles = doubles-kept k i r (reverse before) rs (st .begins);
     }
+
+pub stretches : Stretches
+stretches k i log r before rs later room goes is st = by (drops (reverse before) r) refl
+  where
+    by : (t : Bool) → drops (reverse before) r ≡ t → Kept k i log r rs
+    by false d = kept-stretch k i log r before rs later room goes is st d
+    by true d =
+        let x = longer (editionIn log) k i before r rs st d in
+        let there : recordsOf log ≡ x .earlier ++ x .p ∷ (x .qs ++ r ∷ rs) ++ later =
+        is ∙ ap (λ (l : List (List ℕ)). l ++ r ∷ rs ++ later) (x .cut) ∙ ap (λ (l : List (List ℕ)). l ++ later) (append-assoc (x .earlier) (x .p ∷ x .qs) (r ∷ rs)) in
+        let y = kept-stretch k i log (x .p) (x .earlier) (x .qs ++ r ∷ rs) later room goes there (x .stretch) (x .stays) in
+        record {
+          before = y .before;
+          first = y .first;
+          stay = y .stay;
+          later = y .later;
+          cut = y .cut;
+          stretch = y .stretch;
+          same-steps = y .same-steps ∙ x .same-told steps steps-again;
+          same-doubles = y .same-doubles ∙ x .same-told doubles doubles-again;
+        }

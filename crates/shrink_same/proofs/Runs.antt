@@ -87,10 +87,10 @@ no-place v = by (place v)
     by p = let h : 4 + p - p ≡ 4 = omega arith in ap (λ (n : ℕ). n % 4) h
 
 -- pins that repeat count nothing and are no double
-steps-again : (v : ℕ) (vs : List ℕ) → steps (v ∷ v ∷ vs) ≡ steps (v ∷ vs)
+pub steps-again : (v : ℕ) (vs : List ℕ) → steps (v ∷ v ∷ vs) ≡ steps (v ∷ vs)
 steps-again v vs = ap (λ (n : ℕ). stepOf n +ℤ steps (v ∷ vs)) (no-place v) ∙ +ℤ-idl (steps (v ∷ vs))
 
-doubles-again : (v : ℕ) (vs : List ℕ) → doubles (v ∷ v ∷ vs) ≡ doubles (v ∷ vs)
+pub doubles-again : (v : ℕ) (vs : List ℕ) → doubles (v ∷ v ∷ vs) ≡ doubles (v ∷ vs)
 doubles-again v vs = by (bit 0 v) (bit 1 v)
   where
     by : (a b : Bool) → num (changes a a && changes b b) + doubles (v ∷ vs) ≡ doubles (v ∷ vs)
@@ -98,6 +98,17 @@ doubles-again v vs = by (bit 0 v) (bit 1 v)
     by true false = omega arith
     by false true = omega arith
     by false false = omega arith
+
+-- pins of an encoder are dropped where looking back shows them
+pub dropped-shows : (k i : ℕ) (r : List ℕ) (before : List (List ℕ)) → names k 3 1 i r ≡ true → drops before r ≡ true → shows k i (leOf 8 r 8) before ≡ true
+dropped-shows k i r before n d =
+    let bank = both-true (eqb (bankOf r) k) _ n in
+    let kind = both-true (eqb (byte r 0) 3) _ (bank .1) in
+    let channel = both-true (eqb (byte r 1) 1) (eqb (byte r 2) i) (kind .1) .1 in
+    let is-kind = eqb-true (byte r 0) 3 (kind .0) in
+    ap (λ (b : ℕ). shows b i (leOf 8 r 8) before) (sym (eqb-true (bankOf r) k (bank .0)))
+    ∙ ap (λ (c : ℕ). shows (bankOf r) c (leOf 8 r 8) before) (sym (eqb-true (byte r 2) i channel))
+    ∙ (rw is-kind at d)
 
 -- w is all that looking back may show of the encoder
 Shown : ℕ → ℕ → ℕ → List (List ℕ) → Type 0
@@ -115,14 +126,7 @@ module _ (k i : ℕ) where
   -- a dropped record of this encoder's pins repeats w
   repeats : (r : List ℕ) (before : List (List ℕ)) (w : ℕ) → names k 3 1 i r ≡ true → Shown k i w before → drops before r ≡ true → leOf 8 r 8 ≡ w
   unfolding Shown
-  repeats r before w n s d =
-      let bank = both-true (eqb (bankOf r) k) _ n in
-      let kind = both-true (eqb (byte r 0) 3) _ (bank .1) in
-      let channel = both-true (eqb (byte r 1) 1) (eqb (byte r 2) i) (kind .1) .1 in
-      let is-bank = eqb-true (bankOf r) k (bank .0) in
-      let is-channel = eqb-true (byte r 2) i channel in
-      let is-kind = eqb-true (byte r 0) 3 (kind .0) in
-      s (leOf 8 r 8) (ap (λ (b : ℕ). shows b i (leOf 8 r 8) before) (sym is-bank) ∙ ap (λ (c : ℕ). shows (bankOf r) c (leOf 8 r 8) before) (sym is-channel) ∙ (rw is-kind at d))
+  repeats r before w n s d = s (leOf 8 r 8) (dropped-shows k i r before n d)
 
   -- a number told of pins in a row, which repeated pins leave as it is
   module _ {N : Type 0} (told : List ℕ → N) (again : (v : ℕ) (vs : List ℕ) → told (v ∷ v ∷ vs) ≡ told (v ∷ vs))

@@ -2,7 +2,7 @@
 use Prim.Native.Nat.{ℕ, _≤_}
 use mathlib.Core.Path.{_≡_}
 use mathlib.Core.Bool.{true, false}
-use mathlib.Core.List.{List, [], _∷_, _++_, reverse}
+use mathlib.Core.List.{List, [], _∷_, _++_}
 use lib.ListN.{length, take}
 use Rattle.fold.specs.Run.{going, under}
 use Rattle.wire.specs.Bytes.{leOf}
@@ -11,7 +11,7 @@ use Rattle.wire.specs.declared.Trailer.the-variants.{Found}
 use Rattle.replay.specs.Replay.{replayOf}
 use Rattle.shaft.specs.Shaft.{doubles, steps}
 use Rattle.travel.specs.Stretch.{names, pinsIn, Stretch}
-use Rattle.shrink.specs.Shrink.{writes, shows, drops, kept, smallerOf}
+use Rattle.shrink.specs.Shrink.{writes, shows, kept, smallerOf}
 
 pub record Same (log : List ℕ) (room : ℕ) : Type 0 where
   -- "The smaller log has the same edition"; "notes are kept"
@@ -51,18 +51,19 @@ pub record Exactly (k i v : ℕ) (before : List (List ℕ)) : Type 0 where
 abbrev pub AllExactly : Type 0
 AllExactly = (k i v : ℕ) (before : List (List ℕ)) → Exactly k i v before
 
--- ---- demand 3: a stretch whose first pins record stays (one that is dropped stands in a longer stretch) is one of the smaller log too, with
--- the same counted steps S and the same d
+-- ---- demand 3: a stretch of the log is one of the smaller log too, with the same counted steps S and the same d. It begins with the same
+-- pins record, or with an equal one before it where that is dropped
 
 pub record Kept (k i : ℕ) (log : List ℕ) (r : List ℕ) (rs : List (List ℕ)) : Type 0 where
   pub before : List (List ℕ)
+  pub first : List ℕ
   pub stay : List (List ℕ)
   pub later : List (List ℕ)
-  pub cut : recordsOf (smallerOf log) ≡ before ++ r ∷ stay ++ later
-  pub stretch : Stretch (editionIn (smallerOf log)) k i before r stay
-  pub same-steps : steps (pinsIn k i (r ∷ stay)) ≡ steps (pinsIn k i (r ∷ rs))
-  pub same-doubles : doubles (pinsIn k i (r ∷ stay)) ≡ doubles (pinsIn k i (r ∷ rs))
+  pub cut : recordsOf (smallerOf log) ≡ before ++ first ∷ stay ++ later
+  pub stretch : Stretch (editionIn (smallerOf log)) k i before first stay
+  pub same-steps : steps (pinsIn k i (first ∷ stay)) ≡ steps (pinsIn k i (r ∷ rs))
+  pub same-doubles : doubles (pinsIn k i (first ∷ stay)) ≡ doubles (pinsIn k i (r ∷ rs))
 
 abbrev pub Stretches : Type 0
 Stretches = (k i : ℕ) (log r : List ℕ) (before rs later : List (List ℕ)) (room : ℕ) → replayOf log room .course ≡ going
-    → recordsOf log ≡ before ++ r ∷ rs ++ later → Stretch (editionIn log) k i before r rs → drops (reverse before) r ≡ false → Kept k i log r rs
+    → recordsOf log ≡ before ++ r ∷ rs ++ later → Stretch (editionIn log) k i before r rs → Kept k i log r rs
