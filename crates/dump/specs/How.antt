@@ -3,13 +3,11 @@
 use Prim.Native.Nat.{ℕ, _+_, _*_, _≤_}
 use mathlib.Core.List.{List, map}
 use lib.ListN.{length, drop}
-use Rattle.fold.specs.Run.{going}
 use Rattle.fold.specs.Device.{records}
 use Rattle.vcd.specs.declared.Step.{Step}
 use Rattle.vcd.specs.Lines.{textOf}
 use Rattle.vcd.specs.Dump.{dumpOf, Good}
-use Rattle.dump.specs.declared.Dumped.{Dumped}
-use Rattle.dump.specs.Dump.{seenOf, answerOf, outputBy}
+use Rattle.dump.specs.Dump.{seenOf}
 
 -- the n records from start on
 abbrev pub stepsIn : List ℕ → ℕ → ℕ → List Step
@@ -20,8 +18,5 @@ pub record Ready (log : List ℕ) (start n : ℕ) : Type 0 where
   pub few : n ≤ 2047
   pub good : Good (stepsIn log start n)
 
-abbrev pub answerIn : List Step → ℕ → Dumped
-answerIn steps room = answerOf going 0 (textOf (dumpOf steps)) room
-
-abbrev pub outputIn : List Step → List ℕ → List ℕ
-outputIn steps out = outputBy going (textOf (dumpOf steps)) out
+abbrev pub textIn : List ℕ → ℕ → ℕ → List ℕ
+textIn log start n = textOf (dumpOf (stepsIn log start n))

@@ -1,22 +1,18 @@
 // A log's pins as a value change dump: docs/WAVEFORM.md.
+use made::Made;
+use made::Source;
 use vcd::Step;
-use wire::Trailer;
 ghost use mathlib.Core.Path.{_≡_};
 ghost use mathlib.Core.Bool.{false};
 ghost use Prim.Native.Nat.{_+_, _*_, _<_, _≤_};
 ghost use lib.ListN.{length, take, drop};
 ghost use Rattle.decimal.specs.Put.{Put};
 ghost use Rattle.vcd.specs.Lines.{textOf};
-ghost use Rattle.vcd.specs.Dump.{startOf, bodyFrom, dumpOf};
-ghost use Rattle.dump.specs.Dump.{seenOf, dumpedOf, outputOf};
-ghost use Rattle.dump.specs.How.{stepsIn, Ready, answerIn, outputIn};
-
-// The refusal, 0 for none; the index of the record that was refused, else 0; the length of the text.
-pub struct Dumped {
-    pub refused: u8,
-    pub index: usize,
-    pub size: usize,
-}
+ghost use Rattle.vcd.specs.Dump.{startOf, bodyFrom};
+ghost use Rattle.fold.specs.Run.{going};
+ghost use Rattle.made.specs.Made.{madeBy, madeOf, outputBy, outputOf};
+ghost use Rattle.dump.specs.Dump.{seenOf, dumpText};
+ghost use Rattle.dump.specs.How.{stepsIn, textIn, Ready};
 
 // ---- the records
 
@@ -101,7 +97,7 @@ fn body(log: &[u8], start: usize, n: usize, unknown: [u8; 20], out: &mut [u8], f
 
 fn write(log: &[u8], start: usize, n: usize, out: &mut [u8]) -> usize
     requires { ⌜ Ready (now log) start n ⌝ }
-    ensures { λ r. ⌜ Put (now (out .entry)) 0 (textOf (dumpOf (stepsIn (now (log .entry)) start n))) (now (out .exit)) r ⌝ }
+    ensures { λ r. ⌜ Put (now (out .entry)) 0 (textIn (now (log .entry)) start n) (now (out .exit)) r ⌝ }
 {
     let pins = present(log, start, n);
     let at = vcd_write::header(out, pins);
@@ -109,14 +105,14 @@ fn write(log: &[u8], start: usize, n: usize, out: &mut [u8]) -> usize
 }
 
 // Where every dump has room it is written in place, else into a buffer of our own first, so that 6 writes nothing.
-fn write_all(log: &[u8], start: usize, n: usize, out: &mut [u8]) -> Dumped
+fn write_all(log: &[u8], start: usize, n: usize, out: &mut [u8]) -> Made
     requires { ⌜ Ready (now log) start n ⌝ }
-    ensures { λ r. ⌜ r ≡ answerIn (stepsIn (now (log .entry)) start n) (length (now (out .entry))) ⌝ }
-    ensures { λ _. ⌜ now (out .exit) ≡ outputIn (stepsIn (now (log .entry)) start n) (now (out .entry)) ⌝ }
+    ensures { λ r. ⌜ r ≡ madeBy going 0 (textIn (now (log .entry)) start n) (length (now (out .entry))) ⌝ }
+    ensures { λ _. ⌜ now (out .exit) ≡ outputBy going (textIn (now (log .entry)) start n) (now (out .entry)) ⌝ }
 {
     if 25207 <= out.len() {
         let size = write(log, start, n, out);
-        return Dumped {
+        return Made {
             refused: 0,
             index: 0,
             size: size,
@@ -124,41 +120,20 @@ fn write_all(log: &[u8], start: usize, n: usize, out: &mut [u8]) -> Dumped
     }
     let mut own = [0u8; 25207];
     let size = write(log, start, n, &mut own);
-    if out.len() < size {
-        return Dumped {
-            refused: 6,
-            index: 0,
-            size: 0,
-        };
-    }
-    let end = text::put_word(out, 0, &own[..size]);
-    Dumped {
-        refused: 0,
-        index: 0,
-        size: end,
-    }
+    made::hand_out(&own[..size], out)
 }
 
-pub fn dump(log: &[u8], out: &mut [u8]) -> Dumped
-    ensures { λ r. ⌜ r ≡ dumpedOf (now (log .entry)) (length (now (out .entry))) ⌝ }
-    ensures { λ _. ⌜ now (out .exit) ≡ outputOf (now (log .entry)) (now (out .entry)) ⌝ }
+pub fn dump(log: &[u8], out: &mut [u8]) -> Made
+    ensures { λ r. ⌜ r ≡ madeOf dumpText (now (log .entry)) (length (now (out .entry))) ⌝ }
+    ensures { λ _. ⌜ now (out .exit) ≡ outputOf dumpText (now (log .entry)) (now (out .entry)) ⌝ }
 {
-    let mut readings = [0u8; 16384];
-    let stop = replay::replay(log, &mut readings);
-    if stop.refused != 0 {
-        return Dumped {
-            refused: stop.refused,
-            index: stop.applied,
-            size: 0,
-        };
-    }
-    match wire::find(log) {
-        Trailer::Refused(number) => Dumped {
+    match made::source_of(log) {
+        Source::Refused { number, index } => Made {
             refused: number,
-            index: 0,
+            index: index,
             size: 0,
         },
-        Trailer::Found {
+        Source::Replays {
             start,
             count,
             edition: _,

@@ -1,39 +1,18 @@
 // What `rvz dump` writes: a log's dump, for standard output, or its refusal, for standard error.
 use libc::STDIN_FILENO;
+use printed::Printed;
 ghost use Prim.Native.Nat.{_≤_};
 ghost use lib.ListN.{length};
 ghost use Rattle.io.specs.Counts.{Counts};
-ghost use Rattle.dump_print.specs.Printed.{DumpPrinted};
-
-// How many bytes, and whether they say a refusal.
-pub struct Printed {
-    pub size: usize,
-    pub refused: bool,
-}
+ghost use Rattle.dump.specs.Dump.{dumpText};
+ghost use Rattle.printed.specs.Printed.{MadePrinted};
 
 pub fn dump_log(text: &mut [u8], log: &[u8]) -> Printed
     requires { ⌜ 25207 ≤ length (now text) ⌝ }
-    ensures { λ r. ⌜ DumpPrinted (now (log .entry)) (now (text .exit)) r ⌝ }
+    ensures { λ r. ⌜ MadePrinted dumpText (now (log .entry)) (now (text .exit)) r ⌝ }
 {
     let d = dump::dump(log, text);
-    if d.refused == 0 {
-        return Printed {
-            size: d.size,
-            refused: false,
-        };
-    }
-    if d.refused < 7 {
-        let n = text::refused_text(text, d.refused as u64);
-        return Printed {
-            size: n,
-            refused: true,
-        };
-    }
-    let n = text::refused_record_text(text, d.refused as u64, d.index as u64);
-    Printed {
-        size: n,
-        refused: true,
-    }
+    printed::told(text, d.refused, d.index, d.size)
 }
 
 // The log on standard input. What is read no contract can say.

@@ -1,9 +1,4 @@
--- Laws that belong to no one function.
-pub mod RateWords
-pub mod ReplayWord
-pub mod JudgeWord
-pub mod DumpWords
-pub mod ShrinkWord
-pub mod WriteWord
-pub mod SignWord
 pub mod Proved
+mod Words
+pub mod RateWords
+pub mod JudgeWord

@@ -3,7 +3,7 @@ use mathlib.Core.Path.{_≡_}
 use mathlib.Core.List.{List}
 use Prim.Native.Nat.{ℕ, _/_, _%_, _^_}
 use Rattle.judge.specs.Judge.{Judged}
-use Rattle.rivandoze.specs.Refusal.{refusalIn}
+use Rattle.rivandoze.specs.Word.{refusalIn}
 
 -- the refusal, bits 8-15 the verdict, 16 up the index
 abbrev pub judgedIn : ℕ → ℕ × ℕ × ℕ

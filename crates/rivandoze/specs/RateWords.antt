@@ -3,7 +3,7 @@ use mathlib.Core.Path.{_≡_}
 use Prim.Native.Nat.{ℕ, _/_, _%_, _^_}
 use Rattle.rate.specs.declared.Rule.{Rule}
 use Rattle.rate.specs.Rate.{Outcome, rateOf, ratedNumbers}
-use Rattle.rivandoze.specs.Refusal.{refusalIn}
+use Rattle.rivandoze.specs.Word.{refusalIn}
 
 -- an answer to a request: the refusal, bits 8-15 the divider choice, 16-31 X, 32-63 the period P
 abbrev pub foundIn : ℕ → ℕ × ℕ × ℕ × ℕ

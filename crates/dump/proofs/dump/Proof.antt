@@ -1,8 +1,7 @@
 -- `dump::dump` meets its contract. Assumes nothing.
-use Prim.Native.Nat.{ℕ}
-use lib.ListN.{length-replicate}
 use borrow.Author.Needs.{needs}
-use Rattle.dump.proofs.Whole.{refused-answer, refused-output, no-trailer-answer, no-trailer-output, is-ready, found-answer, found-output}
+use Rattle.made.proofs.Makes.{refused-answer, refused-output}
+use Rattle.dump.proofs.Whole.{is-ready, found-answer, found-output}
 use Rattle.dump.proofs.dump.Statement.{statement}
 use Rattle.dump.proofs.dump.Tie as tie
 
@@ -10,13 +9,10 @@ pub dump-spec : {M : Type 1} → statement M
 dump-spec =
     tie.close
     (tie.spec
-    (λ c. search needs)
     (λ c κs. search needs)
+    (λ c. search needs)
+    (λ c. search needs)
+    (λ c κs. search is-ready)
     (λ c. (search refused-answer, search refused-output))
-    (λ c κs. search needs)
-    (λ c. search needs)
-    (λ c. search needs)
-    (λ c κs. search (is-ready, length-replicate {A = ℕ} 16384 0))
-    (λ c. (search no-trailer-answer, search no-trailer-output))
     (λ c. search needs)
     (λ c. (search found-answer, search found-output)))

@@ -1,6 +1,6 @@
 -- `dump::write_all` meets its contract. Assumes nothing.
 use borrow.Author.Needs.{needs}
-use Rattle.dump.proofs.Whole.{place-answer, place-output, own-count, short-answer, short-output, copied-answer, copied-output}
+use Rattle.dump.proofs.Whole.{place-answer, place-output, own-count, own-answer, own-output}
 use Rattle.dump.proofs.write_all.Statement.{statement}
 use Rattle.dump.proofs.write_all.Tie as tie
 
@@ -13,9 +13,8 @@ write-all-spec =
     (λ c. (search place-answer, search place-output))
     (λ c. search needs)
     (λ c κs. search needs)
-    (λ c. (search short-answer, search short-output))
     (λ c. search needs)
     (λ c. search own-count)
     (λ c κs. search needs)
     (λ c. search needs)
-    (λ c. (search copied-answer, search copied-output)))
+    (λ c. (search own-answer, search own-output)))

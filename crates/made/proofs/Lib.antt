@@ -1,0 +1,2 @@
+pub mod Makes
+mod Sources

@@ -1,0 +1,3 @@
+pub mod Prints
+pub mod OfLogs
+mod Ways

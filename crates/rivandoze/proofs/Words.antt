@@ -1,0 +1,68 @@
+-- The parts of an answer: each number has room, and the word says the parts. Assumes nothing.
+use mathlib.Core.Path.{_≡_, ap, _∙_}
+use mathlib.Core.List.{List}
+use Prim.Native.Nat.{ℕ, _/_, _%_, _^_, _<_}
+use native.Mathlib.Omega.{arith}
+use lib.ListN.{length}
+use Rattle.fold.specs.declared.Stop.{Stop}
+use Rattle.fold.specs.Run.{Run}
+use Rattle.fold.specs.Output.{numberOf, stopOf}
+use Rattle.banks.specs.declared.State.{State}
+use Rattle.replay.specs.Replay.{replayOf}
+use Rattle.replay.proofs.Numbers.{small}
+use Rattle.made.specs.declared.Made.{Made}
+use Rattle.made.specs.Made.{madeOf}
+use Rattle.made.proofs.Makes as makes
+use Rattle.dump.specs.Dump.{dumpText}
+use Rattle.dump.proofs.Whole.{text-short}
+use Rattle.dump_read.specs.declared.Entries.{Entries}
+use Rattle.shrink.specs.declared.Shrunk.{Shrunk}
+use Rattle.shrink.specs.Shrink.{shrunkOf}
+use Rattle.shrink.proofs.Whole.{size-small}
+use Rattle.sign.specs.declared.Signed.{Signed}
+use Rattle.sign.specs.Sign.{Told, signOf, signedOf}
+use Rattle.sign.proofs.Telling.{count-small}
+use Rattle.writer.specs.declared.Written.{Written}
+use Rattle.rivandoze.specs.Word.{refusalIn, Word, WordSettled}
+
+pub a-word : (k n w : ℕ) → refusalIn w ≡ k → w / 256 ≡ n → Word k n w
+a-word k n w a b = record { refusal = a; above = b }
+
+-- ---- how large the numbers are
+
+pub replay-small : (log : List ℕ) (room : ℕ) (s : Stop) → s ≡ stopOf (replayOf log room) → s .applied < 2 ^ 56
+replay-small log room s e = omega (arith, small log room s e)
+
+pub dump-small : (log : List ℕ) (room : ℕ) (d : Made) → d ≡ madeOf dumpText log room → d .size < 2 ^ 56
+dump-small log room d e = omega (arith, ap (λ (x : Made). x .size) e, makes.size-small dumpText log room 25207 (text-short log))
+
+pub shrink-small : (log : List ℕ) (room : ℕ) (s : Shrunk) → s ≡ shrunkOf log room → s .size < 2 ^ 56
+shrink-small log room s e = omega (arith, ap (λ (x : Shrunk). x .size) e, size-small log room)
+
+pub sign-small : (log : List ℕ) (room : ℕ) (s : Signed) → s ≡ signedOf (signOf log room) → s .count < 2 ^ 56
+sign-small log room s e = omega (arith, ap (λ (x : Signed). x .count) e, count-small log room)
+
+-- ---- the parts are those of what is answered
+
+module _ (w : ℕ) where
+  pub replay-word : (r : Run State ℕ) (s : Stop) → s ≡ stopOf r → Word (s .refused) (s .applied) w → Word (numberOf (r .course)) (r .applied) w
+  unfolding stopOf
+  replay-word r s e x = rw e at x
+
+  pub made-word : (d e : Made) → d ≡ e → Word (d .refused) (d .size) w → Word (e .refused) (e .size) w
+  made-word d e q x = rw q at x
+
+  pub entries-word : (d e : Entries) → d ≡ e → Word (d .refused) (d .count) w → Word (e .refused) (e .count) w
+  entries-word d e q x = rw q at x
+
+  pub shrink-word : (d e : Shrunk) → d ≡ e → Word (d .refused) (d .size) w → Word (e .refused) (e .size) w
+  shrink-word d e q x = rw q at x
+
+  pub sign-word : (t : Told) (s : Signed) → s ≡ signedOf t → Word (s .refused) (s .count) w → Word (t .refused) (length (t .entries)) w
+  sign-word t s e x = rw e at x
+
+  pub write-word : (d e : Written) → d ≡ e → Word (d .refused) (d .number % 2 ^ 56) w → Word (e .refused) (e .number % 2 ^ 56) w
+  write-word d e q x = rw q at x
+
+pub word-settled : WordSettled
+word-settled k n v w a b = omega (arith, a .refusal, a .above, b .refusal, b .above)

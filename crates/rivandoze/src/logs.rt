@@ -1,0 +1,82 @@
+// The calls on logs. Each answer is one number: the refusal in the low byte, 0 if none, and above it how many records were applied, how many
+// bytes were written, or how many stretches or entries there are.
+ghost use Prim.Native.Nat.{_<_, _%_, _^_};
+ghost use mathlib.Core.Path.{_≡_};
+ghost use lib.ListN.{length};
+ghost use Rattle.fold.specs.Output.{numberOf};
+ghost use Rattle.walk.specs.Turn.{written};
+ghost use Rattle.replay.specs.Replay.{replayOf};
+ghost use Rattle.made.specs.Made.{madeOf, outputOf as made-output};
+ghost use Rattle.dump.specs.Dump.{dumpText};
+ghost use Rattle.dump_read.specs.Reading.{readingOf, outputOf as entries-output};
+ghost use Rattle.shrink.specs.Shrink.{shrunkOf, outputOf as shrink-output};
+ghost use Rattle.sign.specs.Sign.{signOf, signOutput};
+ghost use Rattle.writer.specs.Writer.{writtenOf, outputOf as write-output};
+ghost use Rattle.rivandoze.specs.Word.{Word};
+
+fn word(refused: u8, number: usize) -> u64
+    requires { ⌜ number < 2 ^ 56 ⌝ }
+    ensures { λ r. ⌜ Word refused number r ⌝ }
+{
+    (refused as u64) + 256 * (number as u64)
+}
+
+// Bits 8 up: how many records were applied, also when one was refused.
+#[no_mangle]
+pub extern "C" fn rvz_replay(log: &[u8], out: &mut [u8]) -> u64
+    ensures { λ r. ⌜ Word (numberOf (replayOf (now (log .entry)) (length (now (out .entry))) .course)) (replayOf (now (log .entry)) (length (now (out .entry))) .applied) r ⌝ }
+    ensures { λ _. ⌜ now (out .exit) ≡ written (replayOf (now (log .entry)) (length (now (out .entry)))) (now (out .entry)) ⌝ }
+{
+    let s = replay::replay(log, out);
+    word(s.refused, s.applied)
+}
+
+// The length of the text.
+#[no_mangle]
+pub extern "C" fn rvz_dump(log: &[u8], out: &mut [u8]) -> u64
+    ensures { λ r. ⌜ Word (madeOf dumpText (now (log .entry)) (length (now (out .entry))) .refused) (madeOf dumpText (now (log .entry)) (length (now (out .entry))) .size) r ⌝ }
+    ensures { λ _. ⌜ now (out .exit) ≡ made-output dumpText (now (log .entry)) (now (out .entry)) ⌝ }
+{
+    let d = dump::dump(log, out);
+    word(d.refused, d.size)
+}
+
+// How many entries.
+#[no_mangle]
+pub extern "C" fn rvz_dump_read(text: &[u8], out: &mut [u8]) -> u64
+    ensures { λ r. ⌜ Word (readingOf (now (text .entry)) (length (now (out .entry))) .refused) (readingOf (now (text .entry)) (length (now (out .entry))) .count) r ⌝ }
+    ensures { λ _. ⌜ now (out .exit) ≡ entries-output (now (text .entry)) (now (out .entry)) ⌝ }
+{
+    let e = dump_read::dump_read(text, out);
+    word(e.refused, e.count)
+}
+
+// The length of the smaller log.
+#[no_mangle]
+pub extern "C" fn rvz_shrink(log: &[u8], out: &mut [u8]) -> u64
+    ensures { λ r. ⌜ Word (shrunkOf (now (log .entry)) (length (now (out .entry))) .refused) (shrunkOf (now (log .entry)) (length (now (out .entry))) .size) r ⌝ }
+    ensures { λ _. ⌜ now (out .exit) ≡ shrink-output (now (log .entry)) (now (out .entry)) ⌝ }
+{
+    let s = shrink::shrink(log, out);
+    word(s.refused, s.size)
+}
+
+// How many stretches are listed, also when a record is refused.
+#[no_mangle]
+pub extern "C" fn rvz_sign(log: &[u8], out: &mut [u8]) -> u64
+    ensures { λ r. ⌜ Word (signOf (now (log .entry)) (length (now (out .entry))) .refused) (length (signOf (now (log .entry)) (length (now (out .entry))) .entries)) r ⌝ }
+    ensures { λ _. ⌜ now (out .exit) ≡ signOutput (now (log .entry)) (now (out .entry)) ⌝ }
+{
+    let s = sign::sign(log, out);
+    word(s.refused, s.count)
+}
+
+// The length of the log or, where a record is refused, its index. 56 bits have room for each index in less than 2^60 bytes of records.
+#[no_mangle]
+pub extern "C" fn rvz_write(edition: u64, notes: &[u8], records: &[u8], out: &mut [u8]) -> u64
+    ensures { λ r. ⌜ Word (writtenOf edition (now (notes .entry)) (now (records .entry)) (length (now (out .entry))) .refused) (writtenOf edition (now (notes .entry)) (now (records .entry)) (length (now (out .entry))) .number % 2 ^ 56) r ⌝ }
+    ensures { λ _. ⌜ now (out .exit) ≡ write-output edition (now (notes .entry)) (now (records .entry)) (now (out .entry)) ⌝ }
+{
+    let w = writer::write(edition, notes, records, out);
+    word(w.refused, w.number % 72_057_594_037_927_936)
+}
