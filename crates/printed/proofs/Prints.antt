@@ -24,6 +24,10 @@ fronts s rest = let h : length s ≤ length (s ++ rest) = omega (arith, length-a
 pub put-counts : (a b s : List ℕ) (n : ℕ) → Put a 0 s b n → Counts n b
 put-counts a b s n x = let h : n ≤ length b = omega (arith, x .place, put-long a b s 0 n x) in (h, sym (length-take-le n b h))
 
+-- a text by the case that it is of
+pub arm : {A : Type 0} (f : A → List ℕ) (a b : A) (out out′ : List ℕ) (n : ℕ) → a ≡ b → Put out 0 (f b) out′ n → Put out 0 (f a) out′ n
+arm f a b out out′ n e x = rw e x
+
 -- how long the two refusals are
 refused-short : (k : ℕ) → k < 2 ^ 64 → length (refusedText k) ≤ 29
 refused-short k h = omega (arith, length-append (refusedWord ++ digitsOf k) (10 ∷ []), length-append refusedWord (digitsOf k), twenty-digits k h)

@@ -23,6 +23,12 @@ pub record Prints (k i : ℕ) (text out′ : List ℕ) (p : Printed) : Type 0 wh
   pub bytes : take (p .size) out′ ≡ printedBy k i text
   pub where-to : p .refused ≡ not (eqb k 0)
 
+-- what is said to arguments that are wrong
+pub record Complains (text out′ : List ℕ) (p : Printed) : Type 0 where
+  pub counts : Counts (p .size) out′
+  pub bytes : take (p .size) out′ ≡ text
+  pub where-to : p .refused ≡ true
+
 -- of what is made of a log
 abbrev pub MadePrinted : (List ℕ → List ℕ) → List ℕ → List ℕ → Printed → Type 0
 MadePrinted make log out′ p = Prints (numberOf (replayed log .course)) (replayed log .applied) (make log) out′ p

@@ -6,16 +6,15 @@ use Prim.Native.Nat.{ℕ, _+_, _/_, _%_, _^_, _≤_, _<_}
 use native.Mathlib.Omega.{arith}
 use lib.Dec.{ltb, eqb}
 use lib.ListN.{length, take, drop, length-append}
-use lib.Seq.{take-append-seam, length-take-le}
-use borrow.Author.Tests.{lt-ltb, le-ltb, eq-eqb, ne-eqb, ltb-false}
+use borrow.Author.Tests.{le-ltb, ltb-false, eqb-true, eqb-false}
 use Rattle.io.specs.Counts.{Counts}
 use Rattle.decimal.specs.declared.Decimal.{Decimal}
 use Rattle.decimal.specs.declared.Decimal.the-variants.{Number, NoNumber}
 use Rattle.decimal.specs.Digits.{digitsOf}
 use Rattle.decimal.specs.Put.{Put}
 use Rattle.decimal.proofs.Back.{twenty-digits}
-use Rattle.decimal.proofs.Puts.{put-whole, put-long}
-use Rattle.text.specs.Text.{line, refusedWord, recordWord, noDecimal, refusedText, refusedRecordText, noNumberText}
+use Rattle.decimal.proofs.Puts.{put-whole}
+use Rattle.text.specs.Text.{line, noDecimal, noNumberText}
 use Rattle.edition.specs.declared.Edition.{Edition}
 use Rattle.edition.specs.Edition.{known, editionOf}
 use Rattle.fold.specs.Output.{over}
@@ -27,8 +26,10 @@ use Rattle.wire.proofs.Laws.{length-records}
 use Rattle.writer.specs.declared.Written.{Written}
 use Rattle.writer.specs.Writer.{logOf, recordsIn, refusedBy, firstOf, writtenOf, outputOf}
 use Rattle.writer.proofs.Answers.{Accepted, accepted}
-use Rattle.write_print.specs.declared.Printed.{Printed}
-use Rattle.write_print.specs.Printed.{printedBy, printedOf, toError, WritePrinted}
+use Rattle.printed.specs.declared.Printed.{Printed}
+use Rattle.printed.specs.Printed.{Prints, Printing}
+use Rattle.printed.proofs.Prints.{put-counts, prints-made, prints-refused}
+use Rattle.write_print.specs.Printed.{WritePrinted}
 
 -- ---- the numbers of an answer are small
 
@@ -79,62 +80,31 @@ module _ (edition : ℕ) (notes run : List ℕ) (room : ℕ) where
       by true e = rw e
       by false e = rw (e, le-ltb room size (omega (arith, ltb-false 32768 size e)))
 
--- ---- bytes in front of others, and bytes put at the front
-
-fronts : (s rest : List ℕ) → Counts (length s) (s ++ rest)
-fronts s rest = let h : length s ≤ length (s ++ rest) = omega (arith, length-append s rest) in (h, sym (length-take-le (length s) (s ++ rest) h))
-
-pub put-counts : (a b s : List ℕ) (n : ℕ) → Put a 0 s b n → Counts n b
-put-counts a b s n x = let h : n ≤ length b = omega (arith, x .place, put-long a b s 0 n x) in (h, sym (length-take-le n b h))
-
-refused-short : (k : ℕ) → k < 2 ^ 64 → length (refusedText k) ≤ 29
-refused-short k h = omega (arith, length-append (refusedWord ++ digitsOf k) (10 ∷ []), length-append refusedWord (digitsOf k), twenty-digits k h)
-
-record-short : (k i : ℕ) → k < 2 ^ 64 → i < 2 ^ 64 → length (refusedRecordText k i) ≤ 57
-record-short k i h l =
-    let first = refusedWord ++ digitsOf k in
-    omega (arith, length-append (first ++ recordWord ++ digitsOf i) (10 ∷ []), length-append (first ++ recordWord) (digitsOf i), length-append first recordWord, length-append refusedWord (digitsOf k), twenty-digits k h, twenty-digits i l)
-
 -- ---- the ways
 
-module _ (edition : ℕ) (notes run out mid : List ℕ) (room : 32768 ≤ length out) (w : Written) (is : w ≡ writtenOf edition notes run (length out)) (left : mid ≡ outputOf edition notes run out) where
+module _ (edition : ℕ) (notes run out mid out′ : List ℕ) (p : Printed) (room : 32768 ≤ length out) (short : length run < 2 ^ 64) (w : Written) (is : w ≡ writtenOf edition notes run (length out)) (left : mid ≡ outputOf edition notes run out)
+    (x : Printing (w .refused) (w .number) (w .number) mid out′ p) where
   same : writtenOf edition notes run 32_768 ≡ w
   same = sym (is ∙ roomy edition notes run (length out) room)
 
-  pub log-printed : w .refused ≡ 0 → WritePrinted (Number edition) notes run mid (record { size = w .number; refused = false })
+  few : (w .refused < 9) × (w .number ≤ 32_768 + length run / 16)
+  unfolding Small
+  few = subst (Small (32_768 + length run / 16)) (sym is) (small edition notes run (length out))
+
+  pub log-printed : WritePrinted (Number edition) notes run out′ p
   unfolding over
-  log-printed z =
-      let log = logOf notes run edition in
-      let a = accepted edition notes run (length out) (ap (λ (x : Written). x .refused) (sym is) ∙ z) in
-      let n : w .number ≡ length log = ap (λ (x : Written). x .number) (is ∙ a .is) in
-      let stands : mid ≡ log ++ drop (length log) out = left ∙ rw (a .is) in
-      record {
-        counts = rw (n, stands) (fronts log (drop (length log) out));
-        bytes = rw (n, stands, same, eq-eqb (w .refused) 0 z) (take-append-seam log (drop (length log) out));
-        where-to = rw (same, eq-eqb (w .refused) 0 z);
-      }
-
-  module _ (nz : w .refused ≡ 0 → ⊥) (short : length run < 2 ^ 64) (out′ : List ℕ) (n : ℕ) where
-    long-mid : length mid ≡ length out
-    long-mid = let e : mid ≡ out = left ∙ rw (← is, ne-eqb (w .refused) 0 nz) in ap length e
-
-    few : (w .refused < 9) × (w .number ≤ 32_768 + length run / 16)
-    unfolding Small
-    few = subst (Small (32_768 + length run / 16)) (sym is) (small edition notes run (length out))
-
-    pub refusal-printed : w .refused < 7 → Put mid 0 (refusedText (w .refused)) out′ n → WritePrinted (Number edition) notes run out′ (record { size = n; refused = true })
-    refusal-printed h x = record {
-      counts = put-counts mid out′ (refusedText (w .refused)) n x;
-      bytes = rw (same, ne-eqb (w .refused) 0 nz, lt-ltb (w .refused) 7 h) (put-whole mid (refusedText (w .refused)) out′ n x (omega (arith, long-mid, refused-short (w .refused) (omega (arith, few)))) .1);
-      where-to = rw (same, ne-eqb (w .refused) 0 nz);
-    }
-
-    pub record-printed : 7 ≤ w .refused → Put mid 0 (refusedRecordText (w .refused) (w .number)) out′ n → WritePrinted (Number edition) notes run out′ (record { size = n; refused = true })
-    record-printed h x = record {
-      counts = put-counts mid out′ (refusedRecordText (w .refused) (w .number)) n x;
-      bytes = rw (same, ne-eqb (w .refused) 0 nz, le-ltb (w .refused) 7 h) (put-whole mid (refusedRecordText (w .refused) (w .number)) out′ n x (omega (arith, long-mid, record-short (w .refused) (w .number) (omega (arith, few)) (omega (arith, few)))) .1);
-      where-to = rw (same, ne-eqb (w .refused) 0 nz);
-    }
+  log-printed = rw same (by (eqb (w .refused) 0) refl)
+    where
+      by : (t : Bool) → eqb (w .refused) 0 ≡ t → Prints (w .refused) (w .number) (logOf notes run edition) out′ p
+      by true e =
+          let log = logOf notes run edition in
+          let z = eqb-true (w .refused) 0 e in
+          let a = accepted edition notes run (length out) (ap (λ (v : Written). v .refused) (sym is) ∙ z) in
+          prints-made (w .refused) (w .number) (w .number) log (drop (length log) out) mid out′ p x (w .number) z (ap (λ (v : Written). v .number) (is ∙ a .is)) (left ∙ rw (a .is))
+      by false e =
+          let nz = eqb-false (w .refused) 0 e in
+          let m : mid ≡ out = left ∙ rw (← is, e) in
+          prints-refused (w .refused) (w .number) (w .number) (logOf notes run edition) [] mid out′ p x nz (omega (arith, few)) (omega (arith, few)) (omega (arith, ap length m))
 
 -- what is no number
 abbrev editionWord : List ℕ
@@ -147,14 +117,12 @@ none-short =
 
 pub no-number-printed : (edition : Decimal) (notes run out out′ : List ℕ) (n : ℕ) → edition ≡ NoNumber → 32768 ≤ length out → Put out 0 (noNumberText editionWord) out′ n
     → WritePrinted edition notes run out′ (record { size = n; refused = true })
-no-number-printed edition notes run out out′ n e room x = record {
-  counts = put-counts out out′ (noNumberText editionWord) n x;
-  bytes = rw e (put-whole out (noNumberText editionWord) out′ n x (omega (arith, none-short)) .1);
-  where-to = rw e;
-}
+no-number-printed edition notes run out out′ n e room x = rw e
+    (record { counts = put-counts out out′ (noNumberText editionWord) n x; bytes = put-whole out (noNumberText editionWord) out′ n x (omega (arith, none-short)) .1; where-to = refl })
 
 pub number-printed : (edition : Decimal) (k : ℕ) (notes run out′ : List ℕ) (p : Printed) → edition ≡ Number k → WritePrinted (Number k) notes run out′ p → WritePrinted edition notes run out′ p
 number-printed edition k notes run out′ p e h = rw e h
 
 pub some-counts : (edition : Decimal) (notes run out′ : List ℕ) (p : Printed) → WritePrinted edition notes run out′ p → Counts (p .size) out′
-some-counts edition notes run out′ p h = h .counts
+some-counts NoNumber notes run out′ p h = h .counts
+some-counts (Number k) notes run out′ p h = h .counts

@@ -1,41 +1,19 @@
 // What `rvz write` writes: a log made of the records on standard input, for standard output, or its refusal, for standard error.
 use decimal::Decimal;
 use libc::STDIN_FILENO;
+use printed::Printed;
 ghost use Prim.Native.Nat.{_≤_};
 ghost use lib.ListN.{length};
 ghost use Rattle.io.specs.Counts.{Counts};
 ghost use Rattle.decimal.specs.declared.Decimal.the-variants.{Number};
 ghost use Rattle.write_print.specs.Printed.{WritePrinted};
 
-// How many bytes, and whether they say a refusal.
-pub struct Printed {
-    pub size: usize,
-    pub refused: bool,
-}
-
 fn write_edition(text: &mut [u8], edition: u64, notes: &[u8], records: &[u8]) -> Printed
     requires { ⌜ 32768 ≤ length (now text) ⌝ }
     ensures { λ r. ⌜ WritePrinted (Number edition) (now (notes .entry)) (now (records .entry)) (now (text .exit)) r ⌝ }
 {
     let w = writer::write(edition, notes, records, text);
-    if w.refused == 0 {
-        return Printed {
-            size: w.number,
-            refused: false,
-        };
-    }
-    if w.refused < 7 {
-        let n = text::refused_text(text, w.refused as u64);
-        return Printed {
-            size: n,
-            refused: true,
-        };
-    }
-    let n = text::refused_record_text(text, w.refused as u64, w.number as u64);
-    Printed {
-        size: n,
-        refused: true,
-    }
+    printed::told(text, w.refused, w.number, w.number)
 }
 
 pub fn write_log(text: &mut [u8], edition: Decimal, notes: &[u8], records: &[u8]) -> Printed

@@ -1,6 +1,6 @@
 -- `write_print::write_input` meets its contract. Assumes nothing.
 use borrow.Author.Needs.{needs}
-use Rattle.write_print.proofs.Prints.{put-counts}
+use Rattle.printed.proofs.Prints.{put-counts}
 use Rattle.write_print.proofs.write_input.Statement.{statement}
 use Rattle.write_print.proofs.write_input.Tie as tie
 
