@@ -38,10 +38,14 @@ put-then a b c s t p q r x y = record {
 pub put-long : (a b s : List ℕ) (p q : ℕ) → Put a p s b q → length b ≡ length a
 put-long a b s p q x = ap length (x .bytes) ∙ length-sets a p s
 
--- ---- put_byte where there is no room
+-- where there is no room
+pub put-full : (out s : List ℕ) (at : ℕ) → length out ≤ at → Put out at s out at
+put-full out s at h = record { bytes = sym (sets-out s out at h); place = omega arith }
 
-pub put-full : (out : List ℕ) (at b : ℕ) → length out ≤ at → Put out at (b ∷ []) out at
-put-full out at b h = record { bytes = sym (set-out out at b h); place = omega arith }
+-- ---- put_byte where there is room
+
+pub put-one : (out : List ℕ) (at b : ℕ) → at < length out → Put out at (b ∷ []) (set out at b) (at + 1)
+put-one out at b h = record { bytes = refl; place = omega arith }
 
 -- ---- put: the one digit, and the last after the others
 

@@ -13,32 +13,32 @@ use Rattle.vcd.specs.Entries.{entriesIn}
 use Rattle.vcd.specs.Reader.{entries, readOf}
 use Rattle.vcd.specs.Facts.{Shown}
 use Rattle.vcd.proofs.Orders.{all-shown}
-use Rattle.dump.specs.Dump.{stepsOf, dumpText, replayed, dumpedOf, outputOf}
-use Rattle.dump.specs.declared.Dumped.{Dumped}
+use Rattle.made.specs.Made.{replayed, madeOf, outputOf}
+use Rattle.made.specs.declared.Made.{Made}
+use Rattle.made.proofs.Makes.{whole-answer, whole-output}
+use Rattle.dump.specs.Dump.{stepsOf, dumpText}
 use Rattle.dump.proofs.Views.{seen-pins, seen-ticks}
-use Rattle.dump.proofs.Whole.{good-log, few-log}
+use Rattle.dump.proofs.Whole.{shown-log}
 use Rattle.dump_back.specs.Facts.{Dumps, AllDumps, NoSix, Sees}
 
 module _ (log : List ℕ) (goes : replayed log .course ≡ going) where
   is-shown : Shown (stepsOf log)
-  is-shown = all-shown (stepsOf log) (good-log log goes) (few-log log goes)
+  is-shown = all-shown (stepsOf log) (shown-log log goes .0) (shown-log log goes .1)
 
   module _ (out : List ℕ) (fits : length (dumpText log) ≤ length out) where
-    size-is : dumpedOf log (length out) .size ≡ length (dumpText log)
-    unfolding dumpedOf
-    size-is = rw (goes, le-leb (length (dumpText log)) (length out) fits)
+    size-is : madeOf dumpText log (length out) .size ≡ length (dumpText log)
+    size-is = ap (λ (d : Made). d .size) (whole-answer dumpText log out goes fits)
 
-    after-is : outputOf log out ≡ dumpText log ++ drop (length (dumpText log)) out
-    unfolding outputOf over
-    after-is = rw (goes, le-leb (length (dumpText log)) (length out) fits)
+    after-is : outputOf dumpText log out ≡ dumpText log ++ drop (length (dumpText log)) out
+    after-is = whole-output dumpText log out goes fits
 
-    front : take (dumpedOf log (length out) .size) (outputOf log out) ≡ dumpText log
+    front : take (madeOf dumpText log (length out) .size) (outputOf dumpText log out) ≡ dumpText log
     front = rw (size-is, after-is) (take-at (dumpText log) (drop (length (dumpText log)) out) (length (dumpText log)) refl)
 
-    beyond : drop (dumpedOf log (length out) .size) (outputOf log out) ≡ drop (dumpedOf log (length out) .size) out
+    beyond : drop (madeOf dumpText log (length out) .size) (outputOf dumpText log out) ≡ drop (madeOf dumpText log (length out) .size) out
     beyond = rw (size-is, after-is) (drop-at (dumpText log) (drop (length (dumpText log)) out) (length (dumpText log)) refl)
 
-    read : readOf (take (dumpedOf log (length out) .size) (outputOf log out)) ≡ entries (entriesIn (stepsOf log))
+    read : readOf (take (madeOf dumpText log (length out) .size) (outputOf dumpText log out)) ≡ entries (entriesIn (stepsOf log))
     read = ap readOf front ∙ is-shown .back
 
 pub all-dumps : AllDumps

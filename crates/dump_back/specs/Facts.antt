@@ -13,8 +13,8 @@ use Rattle.vcd.specs.declared.Step.the-variants.{Wait, Pins as Seen}
 use Rattle.vcd.specs.Entries.{entriesIn, bytesOf}
 use Rattle.vcd.specs.Reader.{entries, readOf}
 use Rattle.vcd.specs.Facts.{Shown}
-use Rattle.dump.specs.Dump.{seenOf, stepsOf, dumpText, replayed, dumpedOf, outputOf}
-use Rattle.dump.specs.declared.Dumped.{Dumped}
+use Rattle.made.specs.Made.{replayed, madeOf, outputOf}
+use Rattle.dump.specs.Dump.{seenOf, stepsOf, dumpText}
 
 -- of a log that replays without refusal
 pub record Dumps (log : List ℕ) : Type 0 where
@@ -23,7 +23,7 @@ pub record Dumps (log : List ℕ) : Type 0 where
   pub shown : Shown (stepsOf log)
   -- in the lent output: the text in the first bytes, the length answered, "bytes beyond as they were"; and the reader on these bytes
   pub written : (out : List ℕ) → length (dumpText log) ≤ length out
-      → let n = dumpedOf log (length out) .size in let after = outputOf log out in
+      → let n = madeOf dumpText log (length out) .size in let after = outputOf dumpText log out in
       (n ≡ length (dumpText log)) × (take n after ≡ dumpText log) × (drop n after ≡ drop n out) × (readOf (take n after) ≡ entries (entriesIn (stepsOf log)))
 
 abbrev pub AllDumps : Type 0

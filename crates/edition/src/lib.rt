@@ -1,6 +1,6 @@
 // The editions of the log's format: what each of them turns on.
 ghost use mathlib.Core.Path.{_≡_};
-ghost use Rattle.edition.specs.Edition.{editionOf};
+ghost use Rattle.edition.specs.Edition.{known, editionOf};
 
 pub struct Edition {
     // a PWM counter above MAX runs on to 65,535
@@ -16,6 +16,12 @@ pub struct Edition {
 }
 
 impl Edition {
+    pub fn known(number: u64) -> bool
+        ensures { λ r. ⌜ r ≡ known number ⌝ }
+    {
+        (1 <= number) & (number <= 4)
+    }
+
     pub fn of(number: u64) -> Edition
         ensures { λ r. ⌜ r ≡ editionOf number ⌝ }
     {

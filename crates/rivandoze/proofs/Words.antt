@@ -16,9 +16,8 @@ use Rattle.made.proofs.Makes as makes
 use Rattle.dump.specs.Dump.{dumpText}
 use Rattle.dump.proofs.Whole.{text-short}
 use Rattle.dump_read.specs.declared.Entries.{Entries}
-use Rattle.shrink.specs.declared.Shrunk.{Shrunk}
-use Rattle.shrink.specs.Shrink.{shrunkOf}
-use Rattle.shrink.proofs.Whole.{size-small}
+use Rattle.shrink.specs.Shrink.{smallerOf}
+use Rattle.shrink.proofs.Whole.{smaller-small}
 use Rattle.sign.specs.declared.Signed.{Signed}
 use Rattle.sign.specs.Sign.{Told, signOf, signedOf}
 use Rattle.sign.proofs.Telling.{count-small}
@@ -36,8 +35,8 @@ replay-small log room s e = omega (arith, small log room s e)
 pub dump-small : (log : List ℕ) (room : ℕ) (d : Made) → d ≡ madeOf dumpText log room → d .size < 2 ^ 56
 dump-small log room d e = omega (arith, ap (λ (x : Made). x .size) e, makes.size-small dumpText log room 25207 (text-short log))
 
-pub shrink-small : (log : List ℕ) (room : ℕ) (s : Shrunk) → s ≡ shrunkOf log room → s .size < 2 ^ 56
-shrink-small log room s e = omega (arith, ap (λ (x : Shrunk). x .size) e, size-small log room)
+pub shrink-small : (log : List ℕ) (room : ℕ) (s : Made) → s ≡ madeOf smallerOf log room → s .size < 2 ^ 56
+shrink-small log room s e = omega (arith, ap (λ (x : Made). x .size) e, makes.size-small smallerOf log room 32768 (smaller-small log))
 
 pub sign-small : (log : List ℕ) (room : ℕ) (s : Signed) → s ≡ signedOf (signOf log room) → s .count < 2 ^ 56
 sign-small log room s e = omega (arith, ap (λ (x : Signed). x .count) e, count-small log room)
@@ -54,9 +53,6 @@ module _ (w : ℕ) where
 
   pub entries-word : (d e : Entries) → d ≡ e → Word (d .refused) (d .count) w → Word (e .refused) (e .count) w
   entries-word d e q x = rw q at x
-
-  pub shrink-word : (d e : Shrunk) → d ≡ e → Word (d .refused) (d .size) w → Word (e .refused) (e .size) w
-  shrink-word d e q x = rw q at x
 
   pub sign-word : (t : Told) (s : Signed) → s ≡ signedOf t → Word (s .refused) (s .count) w → Word (t .refused) (length (t .entries)) w
   sign-word t s e x = rw e at x

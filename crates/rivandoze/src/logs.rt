@@ -9,7 +9,7 @@ ghost use Rattle.replay.specs.Replay.{replayOf};
 ghost use Rattle.made.specs.Made.{madeOf, outputOf as made-output};
 ghost use Rattle.dump.specs.Dump.{dumpText};
 ghost use Rattle.dump_read.specs.Reading.{readingOf, outputOf as entries-output};
-ghost use Rattle.shrink.specs.Shrink.{shrunkOf, outputOf as shrink-output};
+ghost use Rattle.shrink.specs.Shrink.{smallerOf};
 ghost use Rattle.sign.specs.Sign.{signOf, signOutput};
 ghost use Rattle.writer.specs.Writer.{writtenOf, outputOf as write-output};
 ghost use Rattle.rivandoze.specs.Word.{Word};
@@ -54,8 +54,8 @@ pub extern "C" fn rvz_dump_read(text: &[u8], out: &mut [u8]) -> u64
 // The length of the smaller log.
 #[no_mangle]
 pub extern "C" fn rvz_shrink(log: &[u8], out: &mut [u8]) -> u64
-    ensures { λ r. ⌜ Word (shrunkOf (now (log .entry)) (length (now (out .entry))) .refused) (shrunkOf (now (log .entry)) (length (now (out .entry))) .size) r ⌝ }
-    ensures { λ _. ⌜ now (out .exit) ≡ shrink-output (now (log .entry)) (now (out .entry)) ⌝ }
+    ensures { λ r. ⌜ Word (madeOf smallerOf (now (log .entry)) (length (now (out .entry))) .refused) (madeOf smallerOf (now (log .entry)) (length (now (out .entry))) .size) r ⌝ }
+    ensures { λ _. ⌜ now (out .exit) ≡ made-output smallerOf (now (log .entry)) (now (out .entry)) ⌝ }
 {
     let s = shrink::shrink(log, out);
     word(s.refused, s.size)

@@ -61,7 +61,7 @@ fn asked(word: &[u8], words: usize) -> Command {
     Command::Help
 }
 
-fn command() -> Command {
+fn wanted() -> Command {
     let words = os::arg_count();
     if words < 2 {
         return Command::Replay;
@@ -152,7 +152,7 @@ fn tell(text: &[u8], refused: bool) {
 
 fn main() {
     let mut text = [0u8; 43066];
-    let printed = print(&mut text, command());
+    let printed = print(&mut text, wanted());
     let n = printed.size;
     tell(&text[..n], printed.refused);
 }

@@ -1,27 +1,46 @@
 -- Lines put one after the other, and readings out of their bytes. Assumes nothing.
 use mathlib.Core.Path.{_≡_, refl, sym, ap, _∙_}
 use mathlib.Core.List.{List, [], _∷_, _++_, append-assoc, append-nil}
-use Prim.Native.Nat.{ℕ, zero, suc, _+_, _*_, _/_, _≤_, _<_}
-use native.Mathlib.Nat.{add-suc}
+use Prim.Native.Nat.{ℕ, zero, suc, _+_, _*_, _-_, _/_, _≤_, _<_}
+use native.Mathlib.Nat.{add-zero, add-suc}
 use native.Mathlib.Numerals.{add-one}
 use native.Mathlib.Omega.{arith}
-use lib.ListN.{length, getD, take, drop}
-use lib.Seq.{take-suc, take-all, getD-drop}
+use lib.ListN.{length, getD, set, take, drop, take-append-drop}
+use lib.Seq.{take-suc, take-all, getD-drop, length-take-le}
 use Rattle.decimal.specs.Digits.{digitsOf}
 use Rattle.decimal.specs.Put.{Put}
-use Rattle.decimal.proofs.Puts.{put-nothing, put-then}
+use Rattle.decimal.proofs.Puts.{put-nothing, put-then, put-long, put-full, put-one}
 use Rattle.wire.specs.Bytes.{leOf}
 use Rattle.text.specs.Text.{line, linesOf, numbersIn, readingsIn}
 
--- ---- put_word: one byte more, and all of them
+-- ---- copy: no byte, one byte more, and all of them
 
-pub word-more : (out mid out′ word : List ℕ) (at end end′ i b : ℕ) → Put out at (take i word) mid end → i < length word
-    → b ≡ getD word i 0 → Put mid end (b ∷ []) out′ end′ → Put out at (take (i + 1) word) out′ end′
-word-more out mid out′ word at end end′ i b x h e y =
-    rw (add-one i, take-suc word i 0 h, ← e) (put-then out mid out′ (take i word) (b ∷ []) at end end′ x y)
+pub copy-none : (out word : List ℕ) (at : ℕ) → Put out at (take 0 word) out (at + 0)
+copy-none out word at = rw (add-zero at) (put-nothing out at)
 
-pub word-all : (out mid word : List ℕ) (at end i : ℕ) → Put out at (take i word) mid end → length word ≤ i → Put out at word mid end
-word-all out mid word at end i x h = rw (take-all i word h) at x
+module _ (out mid word : List ℕ) (at i : ℕ) (x : Put out at (take i word) mid (at + i)) where
+  pub copy-more : (b : ℕ) → b ≡ getD word i 0 → i < length word → at + length word ≤ length out → Put out at (take (i + 1) word) (set mid (at + i) b) (at + (i + 1))
+  copy-more b e h l =
+      let end : at + i + 1 ≡ at + (i + 1) = omega arith in
+      rw (← end, add-one i, take-suc word i 0 h, ← e) (put-then out mid (set mid (at + i) b) (take i word) (b ∷ []) at (at + i) (at + i + 1) x (put-one mid (at + i) b (omega (arith, put-long out mid (take i word) at (at + i) x))))
+
+  pub copy-all : length word ≤ i → Put out at word mid (at + i)
+  copy-all h = rw (take-all i word h) at x
+
+-- ---- put_word: what has room is all there is
+
+module _ (out word : List ℕ) (at room : ℕ) (h : room < length word) where
+  pub cut-count : room ≡ length (take room word)
+  cut-count = sym (length-take-le room word (omega arith))
+
+  module _ (e : room ≡ length out - at) (l : at < length out) where
+    pub cut-room : at + length (take room word) ≤ length out
+    cut-room = omega (arith, cut-count)
+
+    pub word-cut : (mid : List ℕ) (end : ℕ) → Put out at (take room word) mid end → Put out at word mid end
+    word-cut mid end x =
+        let full : length mid ≤ end = omega (arith, put-long out mid (take room word) at end x, x .place, cut-count) in
+        rw (take-append-drop room word) at (put-then out mid mid (take room word) (drop room word) at end end x (put-full mid (drop room word) end full))
 
 -- ---- put_pair: s, and then the line of t and u
 

@@ -7,16 +7,31 @@ ghost use Rattle.decimal.specs.Put.{Put};
 ghost use Rattle.wire.specs.Bytes.{leOf};
 ghost use Rattle.text.specs.Text.{line, textOf, linesOf, readingsIn, pairText, rateText, refusedText, refusedRecordText, noNumberText, differentText};
 
+// A word that has room: with no test in it the loop is compiled as one copy.
+pub fn copy(out: &mut [u8], at: usize, word: &[u8]) -> usize
+    requires { ⌜ at + length (now word) ≤ length (now out) ⌝ }
+    ensures { λ r. ⌜ Put (now (out .entry)) at (now (word .entry)) (now (out .exit)) r ⌝ }
+{
+    let mut i: usize = 0;
+    while i < word.len() {
+        out[at + i] = word[i];
+        i += 1;
+    }
+    at + i
+}
+
+// As much of a word as has room.
 pub fn put_word(out: &mut [u8], at: usize, word: &[u8]) -> usize
     ensures { λ r. ⌜ Put (now (out .entry)) at (now (word .entry)) (now (out .exit)) r ⌝ }
 {
-    let mut end = at;
-    let mut i: usize = 0;
-    while i < word.len() {
-        end = decimal::put_byte(out, end, word[i]);
-        i += 1;
+    if out.len() <= at {
+        return at;
     }
-    end
+    let room = out.len() - at;
+    if word.len() <= room {
+        return copy(out, at, word);
+    }
+    copy(out, at, &word[..room])
 }
 
 // A word and a number.

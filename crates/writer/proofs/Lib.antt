@@ -1,4 +1,3 @@
-mod Single
 pub mod Firsts
 pub mod Answers
 pub mod Back

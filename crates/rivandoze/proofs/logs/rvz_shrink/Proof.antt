@@ -1,6 +1,6 @@
 -- `rivandoze::logs::rvz_shrink` meets its contract. Assumes nothing.
 use borrow.Author.Needs.{needs}
-use Rattle.rivandoze.proofs.Words.{shrink-small, shrink-word}
+use Rattle.rivandoze.proofs.Words.{shrink-small, made-word}
 use Rattle.rivandoze.proofs.logs.rvz_shrink.Statement.{statement}
 use Rattle.rivandoze.proofs.logs.rvz_shrink.Tie as tie
 
@@ -11,4 +11,4 @@ rvz-shrink-spec =
     (λ c κs. search needs)
     (λ c κs. search shrink-small)
     (λ c. search needs)
-    (λ c. (search shrink-word, search needs)))
+    (λ c. (search made-word, search needs)))
