@@ -5,3 +5,4 @@ pub mod Shrinks
 pub mod Written
 pub mod Places
 pub mod Walks
+pub mod Streams

@@ -14,6 +14,7 @@ use mir.Val.{Fits}
 use borrow.Author.Tests.{eq-eqb, ne-eqb, eqb-true, eqb-false}
 use Rattle.laws.proofs.Truth.{both-true}
 use Rattle.fold.specs.Run.{tally}
+use Rattle.fold.proofs.Laws.{tally-cut}
 use Rattle.fold.proofs.Places.{between, placed, places-next, records-placed}
 use Rattle.wire.specs.Bytes.{byte, leOf, asks, readsIn}
 use Rattle.wire.specs.Trailer.{recordsAt, recordsOf}
@@ -32,11 +33,6 @@ between-cut : {R : Type 0} (this : ℕ → R) (k i m : ℕ) → between this k (
 unfolding between
 between-cut this k zero m = rw (zero-add m, add-zero k)
 between-cut this k (suc i) m = rw (suc-add i m, between-cut this (suc k) i m, add-suc k i, suc-add k i)
-
-tally-cut : {R : Type 0} (test : R → Bool) (rs ts : List R) → tally test (rs ++ ts) ≡ tally test rs + tally test ts
-unfolding tally
-tally-cut test [] ts = sym (zero-add (tally test ts))
-tally-cut test (r ∷ rs) ts = omega (arith, tally-cut test rs ts)
 
 module _ (log : List ℕ) (start : ℕ) (ts : List ℕ) where
   -- the records before the place at have been passed, with j readings among them: the transcript has these negated, and the plain

@@ -18,7 +18,7 @@ use Rattle.banks.specs.declared.State.{State}
 use Rattle.banks.specs.State.{fresh}
 use Rattle.replay.specs.Replay.{replayFrom, replayOf}
 use Rattle.walk.specs.Turn.{turnOf}
-use Rattle.replay.proofs.Numbers.{Number, run-number}
+use Rattle.walk.proofs.Numbers.{Number, run-number}
 use Rattle.replay.proofs.Notes.{same-records, same-edition}
 use Rattle.replay.proofs.Proved as replayed
 use Rattle.judge.specs.Judge.{negating, plain, opposite, courseOf, Judged, same, negated, both}
@@ -42,7 +42,7 @@ never-six log six = by (trailerOf log) refl
         omega (arith, one-to-five log k e)
     by (Found a n o) e =
         let run = replayed.replayed log a n o 16_384 e (omega (arith, answers.has-room log)) in
-        not-six (run-number (editionIn log) (recordsOf log) 6 (sym (ap (λ (x : Run State ℕ). x .course) run) ∙ six))
+        not-six (run-number (editionIn log) fresh (recordsOf log) 6 (sym (ap (λ (x : Run State ℕ). x .course) run) ∙ six))
 
 pub shown : (log ts : List ℕ) → Shown log ts
 shown log ts =

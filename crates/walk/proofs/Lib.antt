@@ -1,3 +1,4 @@
 mod Ways
 pub mod Replaying
+pub mod Numbers
 mod Reached

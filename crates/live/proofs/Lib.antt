@@ -1,0 +1,4 @@
+pub mod Ways
+pub mod Two
+mod Steps
+mod Rooms
