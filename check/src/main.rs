@@ -191,14 +191,42 @@ fn stretch_line(stretch: &Stretch) -> String {
         steps,
         doubles,
     } = stretch;
+    let several = |count: u64, word: &str| {
+        if count == 1 {
+            word.into()
+        } else {
+            format!("{word}s")
+        }
+    };
+    let signed = |number: i64| {
+        if number == 0 {
+            "0".into()
+        } else {
+            format!("{number:+}")
+        }
+    };
+    let most = 2 * *doubles as i64;
+    let size = steps.unsigned_abs();
     let way = match stretch.way() {
-        Way::Open => "open",
-        Way::Forward => "forward",
-        Way::Backward => "backward",
-        Way::Still => "still",
+        Way::Open => {
+            let short = 2 * *doubles as u64 + 1 - size;
+            format!(
+                "open, {short} {} short of a direction",
+                several(short, "step")
+            )
+        }
+        Way::Forward => "forward".into(),
+        Way::Backward => "backward".into(),
+        Way::Still => "still".into(),
     };
     format!(
-        "bank {bank} encoder {encoder} records {first} to {last} pins {pins} steps {steps} doubles {doubles} {way}\n"
+        "bank {bank} encoder {encoder}: records {first} to {last}, {pins} {}, {} {}, {doubles} {}, travel {} to {}: {way}\n",
+        several(*pins as u64, "pin"),
+        signed(*steps),
+        several(size, "step"),
+        several(*doubles as u64, "double change"),
+        signed(steps - most),
+        signed(steps + most),
     )
 }
 

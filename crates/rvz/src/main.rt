@@ -1,8 +1,9 @@
 // With no argument it replays the log on standard input; with arguments it writes that log's dump, or the log without the records that change
-// nothing, judges a transcript by it, makes a log of records, or answers one question about rates. It has no exit status to give, so all it has
-// to say goes to standard output, but for the refusal of a dump, of a smaller log or of records: built in one buffer, every byte promised, and
-// written at once. What is read and written no contract can say: `number`, `replay_input`, `judge_input`, `answer`, `write_asked`, `one_word`,
-// `tell` and `main`, which talk to the system, promise no bytes, nor does `usage`, a constant.
+// nothing, says what it settles of each encoder's direction, judges a transcript by it, makes a log of records, or answers one question about
+// rates. It has no exit status to give, so all it has to say goes to standard output, but for the refusal of a dump, of a smaller log or of
+// records: built in one buffer, every byte promised, and written at once. What is read and written no contract can say: `number`,
+// `replay_input`, `judge_input`, `answer`, `write_asked`, `one_word`, `tell` and `main`, which talk to the system, promise no bytes, nor does
+// `usage`, a constant.
 use decimal::Decimal;
 use judge::Verdict;
 use libc::STDERR_FILENO;
@@ -131,6 +132,7 @@ fn usage(text: &mut [u8]) -> usize
         b"usage: rvz                      replays the log on standard input
        rvz dump                 that log's pins as a value change dump, or 'refused R' on standard error
        rvz shrink               that log without the records that change nothing, or 'refused R' on standard error
+       rvz sign                 what that log settles of each encoder's direction, stretch by stretch
        rvz judge FILE           the transcript in FILE by that log: 'same', 'negated', 'both', 'different I' or 'refused R'
        rvz pwm RATE TOL         the pair for a PWM rate: 'choice C x X period P' or 'refused R'
        rvz spi RATE TOL         the pair for an SPI rate
@@ -248,6 +250,10 @@ fn main() {
         let printed = dump_print::dump_input(&mut text);
         let n = printed.size;
         tell(&text[..n], printed.refused);
+        return;
+    }
+    if one_word(b"sign") {
+        sign_print::sign_input();
         return;
     }
     if one_word(b"shrink") {
