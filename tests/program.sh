@@ -278,6 +278,64 @@ shrink_by_chance() {
     same 'program: shrink, some of 40 logs by chance lose records' yes "$([ "$dropped" -gt 0 ] && echo yes)"
 }
 
+# signs NAME WANTED: one test of `rvz sign` on the log at hand.
+signs() {
+    same "program: sign, $1" "$2" "$(rvz sign <"$work/log")"
+}
+
+sign_by_hand() {
+    local twin=('write select 0xAA' 'write encoder 0 cnfg 1' 'write encoder 1 cnfg 1')
+    printf '%s\n' "${twin[@]}" 'pins encoder 0 0' 'pins encoder 0 1' 'pins encoder 1 3' 'pins encoder 0 3' 'pins encoder 1 1' | log_of
+    signs 'one forward and one backward' $'bank 0 encoder 0: records 3 to 6, 3 pins, +2 steps, 0 double changes, travel +2 to +2: forward
+bank 0 encoder 1: records 5 to 7, 2 pins, -1 step, 0 double changes, travel -1 to -1: backward
+applied 8 refused 0'
+    printf '%s\n' "${twin[@]}" 'pins encoder 0 2' | log_of
+    signs 'one pin stands still' $'bank 0 encoder 0: records 3 to 3, 1 pin, 0 steps, 0 double changes, travel 0 to 0: still\napplied 4 refused 0'
+    printf '%s\n' "${twin[@]}" 'pins encoder 0 0' 'pins encoder 0 3' 'pins encoder 0 2' 'pins encoder 0 0' | log_of
+    signs 'one step short' $'bank 0 encoder 0: records 3 to 6, 4 pins, +2 steps, 1 double change, travel 0 to +4: open, 1 step short of a direction\napplied 7 refused 0'
+    printf '%s\n' "${twin[@]}" 'pins encoder 0 0' 'pins encoder 0 3' 'pins encoder 0 0' 'pins encoder 0 3' 'pins encoder 0 1' | log_of
+    signs 'an open one' $'bank 0 encoder 0: records 3 to 7, 5 pins, -1 step, 3 double changes, travel -7 to +5: open, 6 steps short of a direction\napplied 8 refused 0'
+    printf '%s\n' "${twin[@]}" 'pins encoder 0 0' 'pins encoder 0 1' 'write encoder 0 cnfg 3' 'write encoder 0 cnfg 1' 'pins encoder 0 3' 'read i2c go' 'pins encoder 0 2' | log_of
+    signs 'a reset between, and a refused record' $'bank 0 encoder 0: records 3 to 4, 2 pins, +1 step, 0 double changes, travel +1 to +1: forward
+bank 0 encoder 0: records 7 to 7, 1 pin, 0 steps, 0 double changes, travel 0 to 0: still
+applied 8 refused 7'
+    printf 'read select\nticks 9\n' | log_of
+    signs 'a log with no stretch' 'applied 2 refused 0'
+    printf '' | log_of
+    signs 'the bare trailer' 'applied 0 refused 0'
+    : >"$work/log"
+    signs 'no log' 'applied 0 refused 2'
+    head -c 32769 /dev/zero >"$work/log"
+    signs 'a log that is too long' 'applied 0 refused 1'
+    head -c 64 /dev/zero >"$work/log"
+    signs 'zeros' 'applied 0 refused 3'
+    local number name
+    for name in 3:3 4:4 5:5; do
+        number=${name#*:}
+        cp "examples/logs/refused-${name%:*}.log" "$work/log"
+        signs "refused by $number" "applied 0 refused $number"
+    done
+    same 'program: the usage names sign' 1 "$(rvz help </dev/null | grep -c '^ *rvz sign ')"
+    same 'program: sign with a file is the usage' "$(rvz help </dev/null)" "$(rvz sign "$work/log" </dev/null)"
+    # As many stretches as a log can have: each pins record ends where its encoder is configured anew.
+    { printf 'write select 10\n'; for _ in {1..1023}; do printf 'write encoder 0 cnfg 1\npins encoder 0 3\n'; done; } | log_of
+    signs 'one stretch, configured again and again' "$("$second" sign <"$work/log")"
+    { printf 'write select 10\nwrite encoder 0 cnfg 1\n'; for _ in {1..681}; do printf 'pins encoder 0 3\nwrite encoder 0 cnfg 3\nwrite encoder 0 cnfg 1\n'; done; } | log_of
+    same 'program: sign, 681 stretches' "681 $("$second" sign <"$work/log" | cksum)" "$(rvz sign <"$work/log" | grep -c still) $(rvz sign <"$work/log" | cksum)"
+}
+
+# Logs by chance: the second program has every byte of the text.
+sign_by_chance() {
+    local i
+    for i in {1..60}; do
+        "$second" generate $((seed + i)) 2047 20 5 >"$work/log"
+        [ "$("$second" sign <"$work/log" | cksum)" = "$(rvz sign <"$work/log" | cksum)" ] && continue
+        same "program: sign, made log $((seed + i))" "$("$second" sign <"$work/log" | head -3)" "$(rvz sign <"$work/log" | head -3)"
+        return
+    done
+    echo 'ok program: sign, 60 made logs'
+}
+
 # writes NAME WANTED ARGUMENT..: one test of `rvz write` on the records and the notes at hand. Wanted is what standard error has, and the log
 # that is wanted is in $work/log; where something is refused, nothing may be on standard output.
 writes() {
@@ -383,6 +441,8 @@ by_length
 by_chance
 shrink_by_hand
 shrink_by_chance
+sign_by_hand
+sign_by_chance
 judge_by_hand
 judge_by_chance
 judge_usage

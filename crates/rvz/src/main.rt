@@ -17,6 +17,7 @@ enum Command {
     Replay,
     Dump,
     Shrink,
+    Sign,
     Judge,
     Write,
     Rate,
@@ -31,6 +32,9 @@ fn alone(word: &[u8]) -> Command {
     }
     if check::same(word, b"shrink") {
         return Command::Shrink;
+    }
+    if check::same(word, b"sign") {
+        return Command::Sign;
     }
     if check::same(word, b"version") {
         return Command::Version;
@@ -80,6 +84,7 @@ fn usage(text: &mut [u8]) -> usize
         b"usage: rvz                      replays the log on standard input
        rvz dump                 that log's pins as a value change dump, or 'refused R' on standard error
        rvz shrink               that log without the records that change nothing, or 'refused R' on standard error
+       rvz sign                 what that log settles of each encoder's direction, stretch by stretch
        rvz judge FILE           the transcript in FILE by that log: 'same', 'negated', 'both', 'different I' or 'refused R'
        rvz pwm RATE TOL         the pair for a PWM rate: 'choice C x X period P' or 'refused R'
        rvz spi RATE TOL         the pair for an SPI rate
@@ -104,12 +109,7 @@ fn rate(text: &mut [u8]) -> usize
 {
     let mut word = io::buffer();
     let n = os::arg(1, &mut word);
-    let said = rate_print::say(
-        text,
-        rate_print::asked(&word[..n]),
-        number(2),
-        number(3),
-    );
+    let said = rate_print::say(text, rate_print::asked(&word[..n]), number(2), number(3));
     if said == 0 {
         return usage(text);
     }
@@ -126,13 +126,14 @@ fn plain(size: usize) -> Printed
 }
 
 fn print(text: &mut [u8], command: Command) -> Printed
-    requires { ⌜ 43066 ≤ length (now text) ⌝ }
+    requires { ⌜ 298920 ≤ length (now text) ⌝ }
     ensures { λ r. ⌜ Counts (r .size) (now (text .exit)) ⌝ }
 {
     match command {
         Command::Replay => plain(replay_print::replay_input(text)),
         Command::Dump => dump_print::dump_input(text),
         Command::Shrink => shrink_print::shrink_input(text),
+        Command::Sign => plain(sign_print::sign_input(text)),
         Command::Judge => plain(judge_print::judge_input(text)),
         Command::Write => write_print::write_input(text),
         Command::Rate => plain(rate(text)),
@@ -150,8 +151,9 @@ fn tell(text: &[u8], refused: bool) {
     io::write_all(STDOUT_FILENO, text);
 }
 
+// The longest text is that of `sign`.
 fn main() {
-    let mut text = [0u8; 43066];
+    let mut text = [0u8; 298920];
     let printed = print(&mut text, wanted());
     let n = printed.size;
     tell(&text[..n], printed.refused);

@@ -39,8 +39,11 @@ unfoldable pub linesOf : List ℕ → List ℕ
 linesOf [] = []
 linesOf (v ∷ vs) = line (digitsOf v) ++ linesOf vs
 
+abbrev pub stopText : ℕ → ℕ → List ℕ
+stopText k r = line (appliedWord ++ digitsOf k ++ (32 ∷ refusedWord) ++ digitsOf r)
+
 abbrev pub textOf : List ℕ → ℕ → ℕ → List ℕ
-textOf vs k r = linesOf vs ++ line (appliedWord ++ digitsOf k ++ (32 ∷ refusedWord) ++ digitsOf r)
+textOf vs k r = linesOf vs ++ stopText k r
 
 -- the readings in the output's bytes, 8 bytes each: the first n, and all of them
 unfoldable pub numbersIn : ℕ → List ℕ → List ℕ

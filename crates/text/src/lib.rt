@@ -35,7 +35,7 @@ pub fn put_word(out: &mut [u8], at: usize, word: &[u8]) -> usize
 }
 
 // A word and a number.
-fn put_count(out: &mut [u8], at: usize, word: &[u8], n: u64) -> usize
+pub fn put_count(out: &mut [u8], at: usize, word: &[u8], n: u64) -> usize
     ensures { λ r. ⌜ Put (now (out .entry)) at (now (word .entry) ++ digitsOf n) (now (out .exit)) r ⌝ }
 {
     let end = put_word(out, at, word);
@@ -51,7 +51,7 @@ fn put_line(out: &mut [u8], at: usize, word: &[u8], n: u64) -> usize
 }
 
 // A line of two words, each with a number after it.
-fn put_pair(out: &mut [u8], at: usize, first: &[u8], a: u64, second: &[u8], b: u64) -> usize
+pub fn put_pair(out: &mut [u8], at: usize, first: &[u8], a: u64, second: &[u8], b: u64) -> usize
     ensures { λ r. ⌜ Put (now (out .entry)) at (line (now (first .entry) ++ digitsOf a ++ now (second .entry) ++ digitsOf b)) (now (out .exit)) r ⌝ }
 {
     let end = put_count(out, at, first, a);

@@ -1,0 +1,5 @@
+pub mod Words
+pub mod Spelt
+pub mod Fine
+pub mod Room
+pub mod Saying

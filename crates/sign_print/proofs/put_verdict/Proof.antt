@@ -1,0 +1,25 @@
+-- `sign_print::put_verdict` meets its contract. Assumes nothing.
+use borrow.Author.Needs.{needs}
+use Rattle.sign_print.proofs.Words.{is-forward, is-backward, is-still, is-open}
+use Rattle.sign_print.proofs.put_verdict.Statement.{statement}
+use Rattle.sign_print.proofs.put_verdict.Tie as tie
+
+pub put-verdict-spec : {M : Type 1} → statement M
+put-verdict-spec =
+    tie.close
+    (tie.spec
+    (λ c. search needs)
+    (λ c κs. search needs)
+    (λ c. search needs)
+    (λ c. search is-forward)
+    (λ c. search needs)
+    (λ c κs. search needs)
+    (λ c. search needs)
+    (λ c. search is-backward)
+    (λ c. search needs)
+    (λ c κs. search needs)
+    (λ c. search needs)
+    (λ c. search is-still)
+    (λ c κs. search needs)
+    (λ c. search needs)
+    (λ c. search is-open))
