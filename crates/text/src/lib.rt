@@ -7,7 +7,7 @@ ghost use Rattle.decimal.specs.Put.{Put};
 ghost use Rattle.wire.specs.Bytes.{leOf};
 ghost use Rattle.text.specs.Text.{line, textOf, linesOf, readingsIn, pairText, rateText, refusedText, refusedRecordText, noNumberText, differentText};
 
-// A word that has room: with no test in it the loop is compiled as one copy.
+// A word that has room. With no test in the loop it is compiled to copy many bytes at a time.
 pub fn copy(out: &mut [u8], at: usize, word: &[u8]) -> usize
     requires { ⌜ at + length (now word) ≤ length (now out) ⌝ }
     ensures { λ r. ⌜ Put (now (out .entry)) at (now (word .entry)) (now (out .exit)) r ⌝ }
