@@ -85,7 +85,11 @@ fn answer(words: &[&str]) -> Result<Vec<u8>, String> {
             let notes = std::fs::read(file).map_err(|error| format!("{file}: {error}"))?;
             return written(number(edition)?, &notes);
         }
-        ["shrink"] => return shrink(&input(LOG_MAX + 1)?).map_err(refused),
+        ["shrink"] => {
+            let log = input(LOG_MAX + 1)?;
+            let smaller = shrink(&log).map_err(refused)?;
+            return Ok(smaller.to_vec());
+        }
         ["sign"] => {
             let (refusal, applied, stretches) = sign(&input(LOG_MAX + 1)?, usize::MAX);
             let lines: String = stretches.iter().map(stretch_line).collect();
@@ -175,10 +179,12 @@ fn verdict(answer: Result<Verdict, Refusal>) -> String {
 }
 
 fn written(edition: u64, notes: &[u8]) -> Result<Vec<u8>, String> {
-    write(edition, notes, &input(usize::MAX)?).map_err(|unwritten| match unwritten {
+    let records = input(usize::MAX)?;
+    let log = write(edition, notes, &records).map_err(|unwritten| match unwritten {
         Unwritten::By(refusal) => refused(refusal),
         Unwritten::Record(refusal, index) => format!("refused {refusal} record {index}"),
-    })
+    })?;
+    Ok(log.to_vec())
 }
 
 fn stretch_line(stretch: &Stretch) -> String {

@@ -6,8 +6,12 @@ use rivandoze_check::exchange::PLACES;
 use rivandoze_check::packed;
 use rivandoze_check::reference::log::Log;
 use rivandoze_check::reference::record::{Fields, PINS, TICKS};
-use rivandoze_check::reference::shrink;
+use rivandoze_check::reference::refusal::Refusal;
 use std::collections::BTreeSet;
+
+fn shrink(log: &[u8]) -> Result<Vec<u8>, Refusal> {
+    rivandoze_check::reference::shrink(log).map(|smaller| smaller.to_vec())
+}
 
 /// The log of these lines, behind which those stand that are left out, each marked by a minus.
 fn leaves_out(edition: u16, marked: &str) {
