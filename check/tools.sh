@@ -66,6 +66,9 @@ rt_builds() {
     rt staticlib rivandoze && rt check rvz && touch "$library" "$program"
 }
 
+# Whether the library has the calls of a stream: the tests of these are there as soon as the header is.
+has_stream() { grep -q '^uint64_t rvz_stream_start(' include/rivandoze.h; }
+
 # same NAME WANTED GOT: one test.
 same() {
     if [ "$2" = "$3" ]; then

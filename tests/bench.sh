@@ -16,6 +16,9 @@ judged=1.38
 signed=2.30
 shrunk=2.50
 dumped=2.00
+streamed=1.30
+# The most for a chunk of one record, which loads the state and keeps it again. The aim is 1,500.
+stream_call=7000
 
 # A row, the most instructions that the second program may take, the most that the library may, and the most times its replay's.
 limits="pins of one encoder|100|86
@@ -39,6 +42,15 @@ pins, changing bank, written|55|$written
 a mix over both banks, written|58|$written
 pins, a third as before, shrunk|115|173|$shrunk
 a mix over both banks, shrunk|130|218|$shrunk"
+if has_stream; then
+    limits+="
+pins, changing bank, streamed|100|112|$streamed
+reads, changing bank, streamed|70|78|$streamed
+a mix over both banks, streamed|110|133|$streamed
+a mix, a record a call|400|$stream_call"
+else
+    echo 'bench: include/rivandoze.h has no rvz_stream_start, so there are no rows of the stream'
+fi
 
 # at_most NAME MOST GOT: one test. Nothing at all is no figure.
 at_most() {

@@ -13,6 +13,8 @@ mod sides;
 use rivandoze_check::reference::judge::transcript;
 use rivandoze_check::reference::log::{Log, LOG_MAX, RECORDS_MAX};
 use rivandoze_check::reference::rate::HIGHEST_PWM_RATE;
+#[cfg(with_stream)]
+use rivandoze_check::reference::record::RECORD_LEN;
 use rows::{requests, Does, Row, ROWS};
 use sides::{Side, LIBRARY, SECOND};
 use std::path::Path;
@@ -24,6 +26,12 @@ use std::{env, fs};
 const OUT_LEN: usize = 32;
 /// What the writer puts in front of the records: as much as there is room for before a full log.
 const NOTES: &[u8; 8] = b"measured";
+/// What a stream is given at a time.
+#[cfg(with_stream)]
+const CHUNK_LEN: usize = 4_096;
+/// More than the state of a stream takes.
+#[cfg(with_stream)]
+const STATE_LEN: usize = 65_536;
 /// Rounds between two looks at the clock.
 const AT_A_TIME: u64 = 8;
 /// The rounds of two runs under callgrind. Only their difference is told, so that what a run does but once falls out.
@@ -41,6 +49,8 @@ struct Bench {
     edition: u64,
     records: Vec<u8>,
     transcript: Vec<u8>,
+    #[cfg(with_stream)]
+    state: Vec<u8>,
     out: Vec<u8>,
 }
 
@@ -58,6 +68,8 @@ impl Bench {
             asked,
             edition,
             records,
+            #[cfg(with_stream)]
+            state: vec![0; STATE_LEN],
             out: vec![0; RECORDS_MAX * OUT_LEN],
         }
     }
@@ -67,6 +79,8 @@ impl Bench {
     fn all_of(folder: &Path, row: &Row) -> Vec<Self> {
         let replays = match row.does {
             Does::Replay | Does::Write | Does::Find => None,
+            #[cfg(with_stream)]
+            Does::StreamEach => None,
             _ => Some((Does::Replay, LIBRARY)),
         };
         let all = [(row.does, LIBRARY), (row.does, SECOND)].into_iter();
@@ -107,8 +121,13 @@ impl Bench {
             Does::Sign => made((side.sign)(log, out)),
             Does::Shrink => made((side.shrink)(log, out)),
             #[cfg(with_stream)]
-            Does::Stream(chunk) => {
-                let applied = (side.stream)(self.edition, &self.records, chunk, out);
+            Does::Stream | Does::StreamEach => {
+                let chunk = match self.does {
+                    Does::Stream => CHUNK_LEN,
+                    _ => RECORD_LEN,
+                };
+                let applied =
+                    (side.stream)(self.edition, &self.records, chunk, &mut self.state, out);
                 assert_eq!(applied, ALL_APPLIED, "not all is applied");
                 applied
             }

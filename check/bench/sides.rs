@@ -1,6 +1,8 @@
 //! The calls of the library, and the same of the second program.
 
 use rivandoze_check::packed;
+#[cfg(with_stream)]
+use rivandoze_check::reference::Stream;
 
 extern "C" {
     fn rvz_replay(log: *const u8, log_len: usize, out: *mut u8, out_len: usize) -> u64;
@@ -21,6 +23,21 @@ extern "C" {
     fn rvz_find_spi(rate: u64, tolerance: u64) -> u64;
 }
 
+#[cfg(with_stream)]
+extern "C" {
+    fn rvz_stream_start(edition: u64, state: *mut u8, state_len: usize) -> u64;
+    fn rvz_stream_chunk(
+        state: *mut u8,
+        state_len: usize,
+        chunk: *const u8,
+        chunk_len: usize,
+        out: *mut u8,
+        out_len: usize,
+    ) -> u64;
+    fn rvz_stream_end(state: *const u8, state_len: usize) -> u64;
+    fn rvz_stream_applied(state: *const u8, state_len: usize) -> u64;
+}
+
 #[derive(Clone, Copy)]
 pub struct Side {
     pub replay: fn(&[u8], &mut [u8]) -> u64,
@@ -32,6 +49,10 @@ pub struct Side {
     pub sign: fn(&[u8], &mut [u8]) -> u64,
     pub find_pwm: fn(u64, u64) -> u64,
     pub find_spi: fn(u64, u64) -> u64,
+    /// The applied number of a run of these records, in chunks of so many bytes, without a refusal. The bytes for a state
+    /// are the library's.
+    #[cfg(with_stream)]
+    pub stream: fn(u64, &[u8], usize, &mut [u8], &mut [u8]) -> u64,
 }
 
 /// A call of a log and an output.
@@ -66,6 +87,22 @@ pub const LIBRARY: Side = Side {
     // SAFETY: numbers only.
     find_pwm: |rate, tolerance| unsafe { rvz_find_pwm(rate, tolerance) },
     find_spi: |rate, tolerance| unsafe { rvz_find_spi(rate, tolerance) },
+    #[cfg(with_stream)]
+    stream: |edition, records, chunk, state, mut out| {
+        let (state, len) = (state.as_mut_ptr(), state.len());
+        // SAFETY: all slices are whole, apart and never null, here and below.
+        assert_eq!(unsafe { rvz_stream_start(edition, state, len) }, 0);
+        for chunk in records.chunks(chunk) {
+            let (chunk, chunk_len) = (chunk.as_ptr(), chunk.len());
+            let word = unsafe {
+                rvz_stream_chunk(state, len, chunk, chunk_len, out.as_mut_ptr(), out.len())
+            };
+            assert_eq!(word & 0xFF, 0);
+            out = &mut out[8 * (word >> 8) as usize..];
+        }
+        assert_eq!(unsafe { rvz_stream_end(state, len) }, 0);
+        unsafe { rvz_stream_applied(state, len) }
+    },
 };
 
 pub const SECOND: Side = Side {
@@ -77,4 +114,15 @@ pub const SECOND: Side = Side {
     sign: packed::sign,
     find_pwm: packed::find_pwm,
     find_spi: packed::find_spi,
+    #[cfg(with_stream)]
+    stream: |edition, records, chunk, _, mut out| {
+        let mut stream = Stream::start(edition).expect("an edition");
+        for chunk in records.chunks(chunk) {
+            let (refusal, readings) = stream.chunk(chunk, out);
+            assert_eq!(refusal, 0);
+            out = &mut out[8 * readings as usize..];
+        }
+        assert_eq!(stream.end(), 0);
+        stream.applied()
+    },
 };

@@ -186,6 +186,8 @@ pub const SIGN_FAMILIES: &[Family] = &[
 pub const STREAM_FAMILIES: &[Family] = &[
     family!("streams by chance", true, streamed::by_chance),
     family!("streams with each fault", true, streamed::faults),
+    family!("two streams side by side", true, streamed::side_by_side),
+    family!("damaged states", true, streamed::damaged),
     family!("long streams", true, streamed::long),
     family!("streams cut everywhere", false, streamed::every_cut),
     family!("streams of every edition", false, streamed::starts),

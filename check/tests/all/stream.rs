@@ -109,7 +109,9 @@ fn every_answer_to_a_script_comes_up() {
                 };
                 rest = &rest[16 + room..];
                 match ask {
-                    Ask::Start { .. } => drop(words.insert(("start", word & 0xFF))),
+                    Ask::Start { .. } | Ask::Again { .. } => {
+                        drop(words.insert(("start", word & 0xFF)))
+                    }
                     Ask::Chunk { .. } => drop(words.insert(("chunk", word & 0xFF))),
                     Ask::End => drop(words.insert(("end", word & 0xFF))),
                     Ask::Applied => most = most.max(word),

@@ -196,6 +196,9 @@ mistakes! {
         StreamByteBehindRoom "stream-byte-behind-the-room"
         StreamRoomCleared "stream-rest-of-the-room-cleared"
         StreamMoveLoses "stream-lost-when-moved"
+        StreamsShared "stream-one-state-for-two"
+        StreamNoiseTaken "stream-any-bytes-taken"
+        StreamNoiseIs6 "stream-any-bytes-are-6"
         // The start.
         StreamNo3 "stream-edition-3-refused"
         StreamNo4 "stream-edition-4-refused"
@@ -205,6 +208,10 @@ mistakes! {
         StreamEdition2Always "stream-edition-2-always"
         StreamSixBefore4 "stream-6-before-4"
         StreamShortStarts "stream-starts-in-a-short-state"
+        StreamAgainCounts "stream-started-again-counts-on"
+        StreamAgainCarries "stream-started-again-carries-on"
+        StreamAgainRefuses "stream-started-again-refuses-on"
+        StreamRefusedStartClears "stream-refused-start-clears"
         StreamShortTaken "stream-short-state-taken"
         StreamShortIs6 "stream-short-state-is-6"
         // Cuts.
