@@ -66,6 +66,11 @@ rt_builds() {
     rt staticlib rivandoze && rt check rvz && touch "$library" "$program"
 }
 
+# The second program, with all that compares by it.
+second_builds() {
+    cargo build --release --offline --manifest-path check/Cargo.toml --target-dir target/check
+}
+
 # Whether the library has the calls of a stream: the tests of these are there as soon as the header is.
 has_stream() { grep -q '^uint64_t rvz_stream_start(' include/rivandoze.h; }
 
