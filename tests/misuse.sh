@@ -69,10 +69,10 @@ lengths() {
         for call in $calls; do echo "$call"-{{reads,writes}-{before,behind}-output,reads-{before,behind}-input,writes-input}; done
         ! has_stream || echo stream-writes-behind-state stream-spoils-state-{on-6,on-19,behind-a-refusal,at-the-end,when-counted})
     for wrong in $wrongs; do
-        (WRONG=$wrong run64 "$work/wrong" examples/logs/{turns,refused-9}.log) >"$work/out" 2>&1
+        (WRONG=$wrong run64 "$work/wrong" examples/logs/{turns,refused-11}.log) >"$work/out" 2>&1
         same "misuse: a library that $wrong is seen" seen "$([ $? -eq 0 ] && echo 'let pass' || echo seen)"
     done
-    said=$(WRONG=not run64 "$work/wrong" examples/logs/{turns,refused-9}.log 2>&1)
+    said=$(WRONG=not run64 "$work/wrong" examples/logs/{turns,refused-11}.log 2>&1)
     same 'misuse: the same with nothing touched is let pass' "0 calls" "$? ${said##* }"
 }
 
