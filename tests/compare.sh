@@ -26,6 +26,8 @@ mode=
 drivers=$PWD/target/check/drivers
 with=()
 ! has_stream || with=(-DWITH_STREAM)
+# Where the bytes of a stream's state have what, once docs/STREAM.md says it.
+[ ! -e check/compare/edits.h ] || with+=(-DWITH_EDITS)
 wrapped=(-Wl,--wrap=rvz_{replay,judge,dump,dump_read,write,shrink,sign,stream_{chunk,end,applied}} check/compare/wrong.c)
 undefined=(-g -fsanitize=undefined -fno-sanitize-recover=all)
 address=("${undefined[@]}" -fsanitize=address -static-lib{asan,ubsan,gcc})
@@ -235,7 +237,15 @@ write | shrink | sign)
 stream)
     build
     mistaken stream call-stand-in 58
+    mistaken far call-stand-in 16
+    if has_stream && [ -e check/compare/edits.h ]; then
+        beside against stream far-full "${runner[@]}" "$drivers/plain"
+    else
+        echo 'stream: there is no check/compare/edits.h, so no state is edited'
+    fi
     if has_stream; then
+        # Where x86-64 is emulated this would take minutes.
+        [ "$(uname -m)" != x86_64 ] || beside against stream counted-full "$drivers/plain"
         compared stream stream-writes-{behind-output,input,behind-state} stream-spoils-state-{on-6,on-19,behind-a-refusal,at-the-end,when-counted}
     else
         echo 'stream: include/rivandoze.h has no rvz_stream_start, so only the comparison itself is tried'

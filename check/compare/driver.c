@@ -116,7 +116,7 @@ uint64_t rvz_stream_chunk(uint8_t *state, size_t state_len, const uint8_t *chunk
 uint64_t rvz_stream_end(const uint8_t *state, size_t state_len);
 uint64_t rvz_stream_applied(const uint8_t *state, size_t state_len);
 
-enum ask { START, CHUNK, END, APPLIED, MOVE, SHORT_CHUNK, SHORT_END, SHORT_APPLIED, AGAIN, OTHER, DAMAGED, NOISE };
+enum ask { START, CHUNK, END, APPLIED, MOVE, SHORT_CHUNK, SHORT_END, SHORT_APPLIED, AGAIN, OTHER, DAMAGED, NOISE, REPEATED, SET_APPLIED, SET_COUNT };
 enum { SIX = 6, NO_STATE = 19, UNSET = 0xC3 };
 
 /* The states of two streams, each in a block of the heap of its own; the one that is asked; and whether a record of it was refused. */
@@ -197,6 +197,30 @@ static uint64_t noise(const uint64_t words[4], uint64_t *good) {
     return answer;
 }
 
+/* Where the state has the applied number, of 8 bytes, and the count of each encoder, of 4, least byte first. edits.h has these two functions as
+ * docs/STREAM.md says it; until there is one, nothing can be edited. */
+#ifdef WITH_EDITS
+#include "edits.h"
+#else
+static size_t applied_at(void) { return SIZE_MAX; }
+static size_t count_at(uint64_t bank, uint64_t encoder) { return (void)bank, (void)encoder, SIZE_MAX; }
+#endif
+
+static void edit(size_t at, uint64_t value, size_t len) {
+    if (at > state->len || len > state->len - at) {
+        stop("nowhere to edit");
+    }
+    for (size_t i = 0; i < len; i++) state->bytes[at + i] = (uint8_t)(value >> 8 * i);
+}
+
+/* The record bytes of a log from here, so many. */
+static const uint8_t *part(const struct area *log, uint64_t from, uint64_t len) {
+    if (from > log->len || len > log->len - from) {
+        stop("a chunk of no log");
+    }
+    return inside(log) + from;
+}
+
 static uint64_t ask(const uint64_t words[4], const struct area *log, uint8_t *out, uint64_t *good) {
     size_t shorter = state->len < RVZ_STREAM_BYTES ? state->len : RVZ_STREAM_BYTES - 1;
     size_t len = words[0] >= SHORT_CHUNK ? shorter : state->len;
@@ -208,10 +232,7 @@ static uint64_t ask(const uint64_t words[4], const struct area *log, uint8_t *ou
         return rvz_stream_start(words[1], state->bytes, state->len);
     case CHUNK:
     case SHORT_CHUNK:
-        if (words[1] > log->len || words[2] > log->len - words[1]) {
-            stop("a chunk of no log");
-        }
-        return rvz_stream_chunk(state->bytes, len, inside(log) + words[1], words[2], out, words[3]);
+        return rvz_stream_chunk(state->bytes, len, part(log, words[1], words[2]), words[2], out, words[3]);
     case END:
     case SHORT_END:
         return rvz_stream_end(state->bytes, len);
@@ -229,6 +250,19 @@ static uint64_t ask(const uint64_t words[4], const struct area *log, uint8_t *ou
         return 0;
     case NOISE:
         return noise(words, good);
+    case REPEATED: {
+        uint64_t answer = 0;
+        for (uint64_t i = 0; i < words[3]; i++) {
+            answer = rvz_stream_chunk(state->bytes, state->len, part(log, words[1], words[2]), words[2], out, 0);
+        }
+        return answer;
+    }
+    case SET_APPLIED:
+        edit(applied_at(), words[1], 8);
+        return 0;
+    case SET_COUNT:
+        edit(count_at(words[1], words[2]), words[3], 4);
+        return 0;
     }
     stop("no such ask");
     return 0;
@@ -237,7 +271,8 @@ static uint64_t ask(const uint64_t words[4], const struct area *log, uint8_t *ou
 /* Whether this call may have changed the state, which a record that was refused before forbids. */
 static int may_change(enum ask asked, unsigned refused) {
     if (asked == AGAIN) return refused == 0;
-    return asked == OTHER || (asked == CHUNK && refused != SIX && refused != NO_STATE && !state->refused);
+    if (asked == OTHER || asked == REPEATED || asked == SET_APPLIED || asked == SET_COUNT) return 1;
+    return asked == CHUNK && refused != SIX && refused != NO_STATE && !state->refused;
 }
 
 /* Plays a script, as check/src/script.rs has it: how many calls that was. Clears `good` where a state was changed that may not be. */

@@ -194,6 +194,13 @@ pub const STREAM_FAMILIES: &[Family] = &[
     family!("streams in every room", false, streamed::rooms),
 ];
 
+/// For states that no log comes to, whose bytes are edited.
+pub const FAR_FAMILIES: &[Family] = &[family!("edited states", true, streamed::far)];
+
+/// For a state that only a long run comes to.
+pub const COUNTED_FAMILIES: &[Family] =
+    &[family!("a run of 2^31 steps", false, streamed::counted_far)];
+
 /// A log lent with an output of the given length, somewhere.
 fn lent(log: Vec<u8>, out_len: usize, rng: &mut Rng) -> Request {
     Request {

@@ -53,6 +53,22 @@ pub enum Ask {
         more: u64,
         fewer: u64,
     },
+    /// The same chunk so many times, without room. The answer is the last one.
+    Repeated {
+        from: u64,
+        len: u64,
+        times: u64,
+    },
+    /// The bytes of the state are edited, so that it has applied so many records.
+    SetApplied {
+        applied: u64,
+    },
+    /// So that an encoder has this count.
+    SetCount {
+        bank: u64,
+        encoder: u64,
+        count: u64,
+    },
 }
 
 pub const ASK_LEN: usize = 32;
@@ -78,6 +94,13 @@ impl Ask {
             Ask::Other => [9, 0, 0, 0],
             Ask::Damaged { all, at, by } => [10, all, at, by],
             Ask::Noise { seed, more, fewer } => [11, seed, more, fewer],
+            Ask::Repeated { from, len, times } => [12, from, len, times],
+            Ask::SetApplied { applied } => [13, applied, 0, 0],
+            Ask::SetCount {
+                bank,
+                encoder,
+                count,
+            } => [14, bank, encoder, count],
         };
         let mut bytes = [0; ASK_LEN];
         for (place, number) in bytes.chunks_exact_mut(8).zip(numbers) {
@@ -118,10 +141,21 @@ impl Ask {
                 at: b,
                 by: c,
             },
-            _ => Ask::Noise {
+            11 => Ask::Noise {
                 seed: a,
                 more: b,
                 fewer: c,
+            },
+            12 => Ask::Repeated {
+                from: a,
+                len: b,
+                times: c,
+            },
+            13 => Ask::SetApplied { applied: a },
+            _ => Ask::SetCount {
+                bank: a,
+                encoder: b,
+                count: c,
             },
         }
     }
@@ -152,6 +186,9 @@ pub trait Streams {
 
     fn again(&mut self, edition: u64) -> Refusal;
     fn other(&mut self);
+
+    fn set_applied(&mut self, applied: u64);
+    fn set_count(&mut self, bank: usize, encoder: usize, count: u32);
 
     /// The state lies elsewhere from now on.
     fn moved(&mut self) {}
@@ -226,6 +263,16 @@ impl Streams for Right {
     fn applied(&mut self) -> u64 {
         self.here.stream.as_ref().map_or(0, Stream::applied)
     }
+
+    fn set_applied(&mut self, applied: u64) {
+        let stream = self.here.stream.as_mut().expect("a state");
+        stream.set_applied(applied);
+    }
+
+    fn set_count(&mut self, bank: usize, encoder: usize, count: u32) {
+        let stream = self.here.stream.as_mut().expect("a state");
+        stream.set_count(bank, encoder, count);
+    }
 }
 
 /// Plays the script, and tells how many calls that was.
@@ -259,6 +306,21 @@ pub fn run(stream: &mut impl Streams, log: &[u8], script: &[u8], out: &mut [u8])
             }
             Ask::Damaged { .. } => 0,
             Ask::Noise { .. } => stream.noise().into(),
+            Ask::Repeated { from, len, times } => {
+                (0..times).fold(0, |_, _| both(stream.chunk(bytes(from, len), &mut [])))
+            }
+            Ask::SetApplied { applied } => {
+                stream.set_applied(applied);
+                0
+            }
+            Ask::SetCount {
+                bank,
+                encoder,
+                count,
+            } => {
+                stream.set_count(bank as usize, encoder as usize, count as u32);
+                0
+            }
         };
         word.copy_from_slice(&answered.to_le_bytes());
         rest = &mut behind[GUARD..];

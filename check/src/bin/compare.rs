@@ -2,8 +2,8 @@
 //! output and of what lies around it.
 
 use rivandoze_check::cases::{
-    Family, Requests, Size, DUMP_FAMILIES, FAMILIES, SHRINK_FAMILIES, SIGN_FAMILIES,
-    STREAM_FAMILIES, WRITE_FAMILIES,
+    Family, Requests, Size, COUNTED_FAMILIES, DUMP_FAMILIES, FAMILIES, FAR_FAMILIES,
+    SHRINK_FAMILIES, SIGN_FAMILIES, STREAM_FAMILIES, WRITE_FAMILIES,
 };
 use rivandoze_check::exchange::{Answer, Call, Place, Request};
 use rivandoze_check::reference::log::{records, READING_LEN};
@@ -26,17 +26,20 @@ compare rerun CALL FILE OUT PATTERN PLACE EDITION DRIVER..
                                            one log, with what was lent to it; what was lent beside it
                                            is in a file of the same name that ends in .beside
 Each of these, up to seconds, also as dump-full, dump-short and so on: the dump and its reader; and as write-full,
-shrink-full, sign-full and stream-full and so on: these calls.
+shrink-full, sign-full and stream-full and so on: these calls. far-full and so on edit the bytes of a stream's state;
+counted-full has a stream count to 2^31, which takes some twenty seconds.
 A log that is answered otherwise than by the reference is written to DIR.
 ";
 
 /// What a mode begins with, and the families that it is about.
-const GROUPS: [(&str, &[Family]); 5] = [
+const GROUPS: [(&str, &[Family]); 7] = [
     ("dump-", DUMP_FAMILIES),
     ("write-", WRITE_FAMILIES),
     ("shrink-", SHRINK_FAMILIES),
     ("sign-", SIGN_FAMILIES),
     ("stream-", STREAM_FAMILIES),
+    ("far-", FAR_FAMILIES),
+    ("counted-", COUNTED_FAMILIES),
 ];
 
 /// How many requests may be under way.

@@ -458,3 +458,116 @@ pub fn faults(mut rng: Rng, size: Size) -> Requests {
         streamed(records, &asks, &mut rng)
     }))
 }
+
+/// By edited states: counts about 2^31 and 2^32, walked over the border and back with flags that are cleared now and
+/// then, in both modes; and applied numbers about 2^64.
+pub fn far(mut rng: Rng, size: Size) -> Requests {
+    Box::new((0..size.of(300, 6_000)).map(move |_| {
+        let edition = rng.pick(&EDITIONS);
+        let (bank, encoder) = (
+            some_bank(edition, &mut rng),
+            some_encoder(edition, &mut rng),
+        );
+        let mode = match edition.rules().quadrature_only {
+            true => 0,
+            false => rng.pick(&[0, 0, 0, 4]),
+        };
+        let mut records = vec![
+            Fields::write(SELECT, 0, 0, every_encoder(edition)),
+            Fields::write(ENCODER, encoder, 0, 1 | mode),
+            Fields::pins(encoder, 0),
+        ];
+        let first = records.len();
+        let mut place = 0;
+        for _ in 0..rng.between(4, 60) {
+            place = match rng.below(8) {
+                0..=3 => place + 1,
+                4..=6 => place + 3,
+                _ => place + 2,
+            } % 4;
+            records.push(Fields::pins(encoder, [0, 1, 3, 2][place]));
+            if rng.chance(5) {
+                records.push(Fields::write(ENCODER, encoder, 0, 1 | mode | 16));
+                records.push(Fields::write(ENCODER, encoder, 0, 1 | mode));
+            }
+            records.extend([1, 2].map(|register| Fields::read(ENCODER, encoder, register)));
+        }
+        let records: Vec<u8> = super::in_bank(bank, &records)
+            .iter()
+            .flat_map(|fields| fields.to_bytes())
+            .collect();
+        let mut cutting = Cutting::new(edition.number().into(), &records);
+        cutting.chunk(RECORD_LEN * first, 0);
+        let border = rng.pick(&[1 << 31, 1 << 31, 0]);
+        cutting.asks.push(Ask::SetCount {
+            bank: bank.into(),
+            encoder: encoder.into(),
+            count: (border + rng.between(0, 6)).wrapping_sub(3) & 0xFFFF_FFFF,
+        });
+        cutting.asks.push(Ask::SetApplied {
+            applied: rng
+                .pick(&[1u64 << 32, 1 << 56, 1 << 63, 0])
+                .wrapping_sub(rng.below(30)),
+        });
+        while cutting.left() {
+            cutting.step(rng.below(STYLES), &mut rng);
+            cutting.asks.push(Ask::Applied);
+        }
+        let asks = cutting.end();
+        streamed(records, &asks, &mut rng)
+    }))
+}
+
+/// By a run of more than 2^31 records: a count that comes to 2^31, goes back over the border, and on again.
+pub fn counted_far(mut rng: Rng, _: Size) -> Requests {
+    let edition = rng.pick(&EDITIONS);
+    let (bank, encoder) = (
+        some_bank(edition, &mut rng),
+        some_encoder(edition, &mut rng),
+    );
+    let forward =
+        |steps: usize| (1..=steps).map(|step| Fields::pins(encoder, [0, 1, 3, 2][step % 4]));
+    let back = |steps: usize| (1..=steps).map(|step| Fields::pins(encoder, [0, 2, 3, 1][step % 4]));
+    let told = |steps: Vec<Fields>| {
+        let reads = [1, 2].map(|register| Fields::read(ENCODER, encoder, register));
+        steps
+            .into_iter()
+            .flat_map(move |step| [step, reads[0], reads[1]])
+            .collect::<Vec<_>>()
+    };
+    let parts: [Vec<Fields>; 4] = [
+        vec![
+            Fields::write(SELECT, 0, 0, every_encoder(edition)),
+            Fields::write(ENCODER, encoder, 0, 1),
+            Fields::pins(encoder, 0),
+        ],
+        forward(2_048).collect(),
+        forward(2_040).collect(),
+        told(forward(16).chain(back(16)).chain(forward(12)).collect()),
+    ];
+    let parts = parts.map(|part| -> Vec<u8> {
+        let moved = super::in_bank(bank, &part);
+        moved.iter().flat_map(|fields| fields.to_bytes()).collect()
+    });
+    let mut from = 0;
+    let mut asks = vec![start(edition.number().into())];
+    for (index, part) in parts.iter().enumerate() {
+        let len = part.len() as u64;
+        asks.push(match index {
+            1 => Ask::Repeated {
+                from,
+                len,
+                times: (1 << 31) / 2_048 - 1,
+            },
+            _ => Ask::Chunk {
+                from,
+                len,
+                room: len,
+            },
+        });
+        asks.push(Ask::Applied);
+        from += len;
+    }
+    let request = streamed(parts.concat(), &asks, &mut rng);
+    Box::new(std::iter::once(request))
+}

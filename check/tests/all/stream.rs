@@ -1,9 +1,10 @@
 //! Streams: however the records are cut, all is as in the whole log.
 
 use crate::common::run;
-use rivandoze_check::cases::{Size, STREAM_FAMILIES};
+use rivandoze_check::cases::{Size, FAR_FAMILIES, STREAM_FAMILIES};
 use rivandoze_check::exchange::PLACES;
 use rivandoze_check::generate::{generate, Rng, Settings};
+use rivandoze_check::reference::encoder::{SOERR, SOVR, UOVR};
 use rivandoze_check::reference::log::{each_reading, Log, READING_LEN};
 use rivandoze_check::reference::record::Fields;
 use rivandoze_check::reference::Stream;
@@ -134,4 +135,37 @@ fn every_answer_to_a_script_comes_up() {
     assert_eq!(words, start.into_iter().chain(chunk).chain(end).collect());
     assert_eq!(places.len(), PLACES.len());
     assert!(most > 1 << 16, "{most}");
+}
+
+/// What only edited states come to: both flags of the signed border, a count of 2^31, and applied numbers that begin
+/// anew.
+#[test]
+fn edited_states_come_to_what_no_log_does() {
+    let (mut readings, mut applied) = (BTreeSet::new(), BTreeSet::new());
+    for request in FAR_FAMILIES[0].requests(1, Size::Short) {
+        let mut answer = request.right_answer();
+        let mut rest: &[u8] = answer.area.out();
+        for ask in asks(&request.beside) {
+            let word = u64::from_le_bytes(rest[..8].try_into().expect("eight bytes"));
+            let room = match ask {
+                Ask::Chunk { room, .. } | Ask::ShortChunk { room, .. } => room as usize,
+                _ => 0,
+            };
+            match ask {
+                Ask::Chunk { .. } => readings.extend(each_reading(&rest[8..8 + room])),
+                Ask::Applied => drop(applied.insert(word)),
+                _ => {}
+            }
+            rest = &rest[16 + room..];
+        }
+    }
+    for stat in [SOVR, SOVR | SOERR, SOVR | UOVR] {
+        assert!(readings.contains(&stat.into()), "{stat}");
+    }
+    for count in [1 << 31, (1 << 31) - 1, (1 << 31) + 1] {
+        assert!(readings.contains(&count), "{count}");
+    }
+    for number in [u64::MAX, 0, 1, 1 << 63, 1 << 56] {
+        assert!(applied.contains(&number), "{number}");
+    }
 }

@@ -4,6 +4,7 @@
 //! `call-stand-in list CALL` names the mistakes of a call, `call-stand-in MISTAKE` makes one, and `call-stand-in none`
 //! makes none.
 
+mod far;
 mod mistakes;
 mod shrink;
 mod sign;

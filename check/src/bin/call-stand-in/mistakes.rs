@@ -257,4 +257,22 @@ mistakes! {
         StreamApplied0 "stream-applied-0-where-refused"
         StreamAppliedReadings "stream-readings-applied"
     }
+    far {
+        FarAppliedStops "far-applied-stops-at-the-largest"
+        FarAppliedOf56Bits "far-applied-of-56-bits"
+        FarAppliedOf63Bits "far-applied-of-63-bits"
+        FarAppliedTo1 "far-applied-goes-to-1"
+        FarNoSovr "far-no-sovr"
+        FarNoSovrUp "far-no-sovr-up"
+        FarNoSovrDown "far-no-sovr-down"
+        FarSovrOneLate "far-sovr-one-late"
+        FarSovrOneEarly "far-sovr-one-early"
+        FarUovrToo "far-uovr-with-sovr"
+        FarUovrInstead "far-uovr-instead-of-sovr"
+        FarNoSoerr "far-no-soerr"
+        FarSoerrAtOnce "far-soerr-at-once"
+        FarUoerrInstead "far-uoerr-instead-of-soerr"
+        FarSovrAgainClears "far-sovr-cleared-by-the-second"
+        FarStopsAtTheBorder "far-count-stops-at-the-border"
+    }
 }
