@@ -9,7 +9,7 @@
 #   tests/compare.sh write-seconds N                and likewise of the others
 #   tests/compare.sh rerun CALL FILE OUT PATTERN PLACE EDITION
 #                                                   one log again, as a failed test has printed it
-# SEED chooses the logs. Logs that fail are written to target/failed.
+# SEED chooses the logs, and CASES how many are by chance. Logs that fail are written to target/failed.
 set -u
 cd "$(dirname "$0")/.." || exit 2
 . check/tools.sh
@@ -28,7 +28,6 @@ with=()
 ! has_stream || with=(-DWITH_STREAM)
 # Where the bytes of a stream's state have what, once docs/STREAM.md says it.
 [ ! -e check/compare/edits.h ] || with+=(-DWITH_EDITS)
-wrapped=(-Wl,--wrap=rvz_{replay,judge,dump,dump_read,write,shrink,sign,stream_{chunk,end,applied}} check/compare/wrong.c)
 undefined=(-g -fsanitize=undefined -fno-sanitize-recover=all)
 address=("${undefined[@]}" -fsanitize=address -static-lib{asan,ubsan,gcc})
 
@@ -43,8 +42,7 @@ build_driver() {
 
 build() {
     must 'compare: the library builds' rt_builds
-    must 'compare: the second program builds' \
-        cargo build --release --offline --jobs 1 --manifest-path check/Cargo.toml --target-dir target/check
+    must 'compare: the second program builds' second_builds
     must 'compare: the driver builds' build_driver plain
     must 'compare: the driver builds with a library that touches what it may not' build_driver wrong "${wrapped[@]}"
     must 'compare: the driver builds under UndefinedBehaviorSanitizer' build_driver undefined "${undefined[@]}"
@@ -62,31 +60,6 @@ against() {
 verdict() {
     "$programs/compare" "$1" "$seed" "$work" "${@:2}" >"$work/out" 2>&1
     echo "$? $(grep -c '^FAIL ' "$work/out") $(grep -c 'without an answer' "$work/out")"
-}
-
-# beside COMMAND..: tests in a process of their own, with a folder of their own, as many at a time as there are processors.
-started=0
-beside() {
-    [ "$(jobs -rp | wc -l)" -lt "$(nproc)" ] || wait -n
-    started=$((started + 1))
-    mkdir "$work/$started"
-    (
-        work=$work/$started
-        "$@" >"$work/said" 2>&1
-        [ $failed -ne 0 ] || : >"$work/good"
-    ) &
-}
-
-# told: waits for all of these, and gives what each has said, in the order in which they were started.
-told() {
-    local one
-    wait
-    for ((one = 1; one <= started; one++)); do
-        cat "$work/$one/said"
-        [ -e "$work/$one/good" ] || failed=1
-        rm -r "${work:?}/$one"
-    done
-    started=0
 }
 
 # gives NAME WANTED MODE DRIVER..: one test, of the verdict.
@@ -232,6 +205,9 @@ write | shrink | sign)
     declare -A mistakes=([write]=58 [shrink]=46 [sign]=52)
     mistaken "$1" call-stand-in "${mistakes[$1]}"
     compared "$1" "$1"-{{reads,writes}-{before,behind}-output,reads-{before,behind}-input,writes-input}
+    [ "$1" != write ] || for wrong in write-notes-{reads-{before,behind}-input,writes-input}; do
+        beside fenced "$wrong" "${runner[@]}" "$drivers/wrong"
+    done
     told
     ;;
 stream)

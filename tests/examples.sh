@@ -140,7 +140,7 @@ TEXT
 folders() {
     local log lines totals
     echo "seed $seed"
-    must 'examples: a folder of logs' check/many.sh "$work/many" 200 "$seed"
+    must 'examples: a folder of logs' check/many.sh "$work/many" "$(cases 200)" "$seed"
     lines=$(run64 "$work/folder" "$work"/many/*.log)
     same 'examples: folder says of each log what the second program says of it alone' \
         "$(for log in "$work"/many/*.log; do echo "$log $("$second" <"$log" | tail -n 1)"; done)" "$lines"

@@ -14,7 +14,6 @@ seed=${SEED:-$(date +%s)}
 second=target/check/release/rvz-check
 strict=(-std=c99 -O2 -Wall -Wextra -Wpedantic -Werror -Iinclude)
 ! has_stream || strict+=(-DWITH_STREAM)
-wrapped=(-Wl,--wrap=rvz_{replay,judge,dump,dump_read,write,shrink,sign,stream_{chunk,end,applied}} check/compare/wrong.c)
 thread=(-g -pthread -fsanitize=thread -static-lib{tsan,gcc})
 # Full logs are of the largest outputs too.
 full='reads pins steps'
@@ -49,10 +48,10 @@ logs() {
         same "misuse: the log of $kind is full" 32768 "$(wc -c <"$work/logs/$kind.log")"
     done
     echo "seed $seed"
-    for number in 1 2 3 4 5 6 7 8; do
+    for ((number = 1; number <= $(cases 8); number++)); do
         "$second" generate $((seed + number)) 100 1000 20 >"$work/logs/$number.log"
     done
-    mapfile -t samples < <(ls examples/logs/*.log | grep -v 'refused-[1-5]\.')
+    mapfile -t samples < <(find examples/logs -name '*.log' ! -name 'refused-[1-5].log' | sort)
     all=("${samples[@]}" "$work"/logs/*.log)
 }
 

@@ -60,11 +60,6 @@ uint64_t __wrap_rvz_judge(const uint8_t *log, size_t log_len, const uint8_t *tra
     return answer;
 }
 
-uint64_t __real_rvz_dump(const uint8_t *log, size_t log_len, uint8_t *out, size_t out_len);
-uint64_t __wrap_rvz_dump(const uint8_t *log, size_t log_len, uint8_t *out, size_t out_len);
-uint64_t __real_rvz_dump_read(const uint8_t *text, size_t text_len, uint8_t *out, size_t out_len);
-uint64_t __wrap_rvz_dump_read(const uint8_t *text, size_t text_len, uint8_t *out, size_t out_len);
-
 /* What WRONG says behind the name of the call. */
 static void touch(const char *call, const uint8_t *input, size_t input_len, uint8_t *out, size_t out_len) {
     const char *wrong = getenv("WRONG");
@@ -79,17 +74,20 @@ static void touch(const char *call, const uint8_t *input, size_t input_len, uint
     if (strcmp(wrong, "-writes-behind-output") == 0) change(out + out_len);
 }
 
-uint64_t __wrap_rvz_dump(const uint8_t *log, size_t log_len, uint8_t *out, size_t out_len) {
-    uint64_t answer = __real_rvz_dump(log, log_len, out, out_len);
-    touch("dump", log, log_len, out, out_len);
-    return answer;
-}
+/* A call of an input and an output. */
+#define WRAPPED(call, name)                                                                            \
+    uint64_t __real_##call(const uint8_t *input, size_t input_len, uint8_t *out, size_t out_len);      \
+    uint64_t __wrap_##call(const uint8_t *input, size_t input_len, uint8_t *out, size_t out_len);      \
+    uint64_t __wrap_##call(const uint8_t *input, size_t input_len, uint8_t *out, size_t out_len) {     \
+        uint64_t answer = __real_##call(input, input_len, out, out_len);                               \
+        touch(name, input, input_len, out, out_len);                                                   \
+        return answer;                                                                                 \
+    }
 
-uint64_t __wrap_rvz_dump_read(const uint8_t *text, size_t text_len, uint8_t *out, size_t out_len) {
-    uint64_t answer = __real_rvz_dump_read(text, text_len, out, out_len);
-    touch("dump-read", text, text_len, out, out_len);
-    return answer;
-}
+WRAPPED(rvz_dump, "dump")
+WRAPPED(rvz_dump_read, "dump-read")
+WRAPPED(rvz_shrink, "shrink")
+WRAPPED(rvz_sign, "sign")
 
 uint64_t __real_rvz_write(uint64_t edition, const uint8_t *notes, size_t notes_len, const uint8_t *records, size_t records_len, uint8_t *out,
     size_t out_len);
@@ -101,24 +99,6 @@ uint64_t __wrap_rvz_write(uint64_t edition, const uint8_t *notes, size_t notes_l
     uint64_t answer = __real_rvz_write(edition, notes, notes_len, records, records_len, out, out_len);
     touch("write", records, records_len, out, out_len);
     touch("write-notes", notes, notes_len, out, out_len);
-    return answer;
-}
-
-uint64_t __real_rvz_shrink(const uint8_t *log, size_t log_len, uint8_t *out, size_t out_len);
-uint64_t __wrap_rvz_shrink(const uint8_t *log, size_t log_len, uint8_t *out, size_t out_len);
-
-uint64_t __wrap_rvz_shrink(const uint8_t *log, size_t log_len, uint8_t *out, size_t out_len) {
-    uint64_t answer = __real_rvz_shrink(log, log_len, out, out_len);
-    touch("shrink", log, log_len, out, out_len);
-    return answer;
-}
-
-uint64_t __real_rvz_sign(const uint8_t *log, size_t log_len, uint8_t *out, size_t out_len);
-uint64_t __wrap_rvz_sign(const uint8_t *log, size_t log_len, uint8_t *out, size_t out_len);
-
-uint64_t __wrap_rvz_sign(const uint8_t *log, size_t log_len, uint8_t *out, size_t out_len) {
-    uint64_t answer = __real_rvz_sign(log, log_len, out, out_len);
-    touch("sign", log, log_len, out, out_len);
     return answer;
 }
 

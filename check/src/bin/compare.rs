@@ -28,7 +28,8 @@ compare rerun CALL FILE OUT PATTERN PLACE EDITION DRIVER..
 Each of these, up to seconds, also as dump-full, dump-short and so on: the dump and its reader; and as write-full,
 shrink-full, sign-full and stream-full and so on: these calls. far-full and so on edit the bytes of a stream's state;
 counted-full has a stream count to 2^31, which takes some twenty seconds.
-A log that is answered otherwise than by the reference is written to DIR.
+A log that is answered otherwise than by the reference is written to DIR. CASES in the environment is how many hundredths
+of the logs by chance `full` has.
 ";
 
 /// What a mode begins with, and the families that it is about.
@@ -42,6 +43,7 @@ const GROUPS: [(&str, &[Family]); 7] = [
     ("counted-", COUNTED_FAMILIES),
 ];
 
+const CASES: &str = "CASES";
 /// How many requests may be under way.
 const AHEAD: usize = 64;
 /// Every which log of a family is one of the few.
@@ -81,9 +83,17 @@ fn run(words: &[String]) -> Result<bool, String> {
 
 fn full(families: &[Family], words: &[String]) -> Result<bool, String> {
     let against = Against::from_words(words)?;
+    let percent = match std::env::var(CASES) {
+        Ok(percent) => number(&percent)?,
+        Err(_) => 100,
+    };
     let mut good = true;
     for family in families {
-        good &= against.compare(family.name, family.requests(against.seed, Size::Full))?;
+        let size = match family.by_chance {
+            true => Size::Percent(percent),
+            false => Size::Full,
+        };
+        good &= against.compare(family.name, family.requests(against.seed, size))?;
     }
     Ok(good)
 }

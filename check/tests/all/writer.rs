@@ -1,8 +1,7 @@
 //! The writer, and that it and the reader of logs go together.
 
-use crate::common::{in_edition, log, run};
+use crate::common::{assert_comes_up, in_edition, log, run};
 use rivandoze_check::cases::{reads_back, Size, WRITE_FAMILIES};
-use rivandoze_check::exchange::PLACES;
 use rivandoze_check::generate::{generate, Settings};
 use rivandoze_check::packed;
 use rivandoze_check::reference::device::Device;
@@ -10,7 +9,6 @@ use rivandoze_check::reference::edition::Edition;
 use rivandoze_check::reference::log::{each_record, Log, LOG_MAX};
 use rivandoze_check::reference::record::Fields;
 use rivandoze_check::reference::writer::{write, Unwritten};
-use std::collections::BTreeSet;
 
 const TICKS: [u8; 16] = [4, 0, 0, 0, 0, 0, 0, 0, 7, 0, 0, 0, 0, 0, 0, 0];
 const NO_KIND: [u8; 16] = [0; 16];
@@ -110,18 +108,7 @@ fn writer_and_reader_go_together() {
 
 #[test]
 fn every_answer_and_every_place_of_the_writer_comes_up() {
-    let mut met = BTreeSet::new();
-    for family in WRITE_FAMILIES {
-        for request in family.requests(1, Size::Short) {
-            met.insert((request.right_answer().word & 0xFF, request.place as u64));
-        }
-        let some = |seed| -> Vec<_> { family.requests(seed, Size::Short).take(60).collect() };
-        assert_eq!(some(3), some(3), "{}", family.name);
-        assert_ne!(some(3), some(4), "{}", family.name);
-    }
-    let wanted = [0, 1, 4, 5, 6, 7, 8].into_iter();
-    let wanted = wanted.flat_map(|refusal| PLACES.map(|place| (refusal, place as u64)));
-    assert_eq!(met, wanted.collect());
+    assert_comes_up(WRITE_FAMILIES, [0, 1, 4, 5, 6, 7, 8]);
 }
 
 /// What one device finds that is never routed is what a fresh one finds of each record.
