@@ -66,6 +66,47 @@ rt_builds() {
     rt staticlib rivandoze && rt check rvz && touch "$library" "$program"
 }
 
+# The second program, with all that compares by it.
+second_builds() {
+    cargo build --release --offline --manifest-path check/Cargo.toml --target-dir target/check
+}
+
+# What a program is linked with so that the library touches what it may not, as WRONG says.
+wrapped=(-Wl,--wrap=rvz_{replay,judge,dump,dump_read,write,shrink,sign,stream_{chunk,end,applied}} check/compare/wrong.c)
+
+# Whether the library has the calls of a stream: the tests of these are there as soon as the header is.
+has_stream() { grep -q '^uint64_t rvz_stream_start(' include/rivandoze.h; }
+
+# beside COMMAND..: tests in a process of their own, with a folder of their own, as many at a time as there are processors.
+started=0
+beside() {
+    [ "$(jobs -rp | wc -l)" -lt "$(nproc)" ] || wait -n
+    started=$((started + 1))
+    local own=$work/beside/$started
+    mkdir -p "$own"
+    (
+        work=$own
+        "$@" >"$own.said" 2>&1
+        [ $failed -ne 0 ] || : >"$own.good"
+    ) &
+}
+
+# told: waits for all of these, and gives what each has said, in the order in which they were started.
+told() {
+    local one
+    wait
+    for ((one = 1; one <= started; one++)); do
+        cat "$work/beside/$one.said"
+        [ -e "$work/beside/$one.good" ] || failed=1
+    done
+    rm -rf "$work/beside"
+    started=0
+}
+
+# How many hundredths of the cases by chance are tried: CASES=1000 for ten times as many.
+export CASES=${CASES:-100}
+cases() { echo $((($1 * CASES + 99) / 100)); }
+
 # same NAME WANTED GOT: one test.
 same() {
     if [ "$2" = "$3" ]; then

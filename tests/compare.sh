@@ -5,11 +5,11 @@
 #   tests/compare.sh seconds N                      logs by chance for N seconds
 #   tests/compare.sh dump                           the dump and its reader, which tests/dump.sh runs
 #   tests/compare.sh dump-seconds N                 the same by chance for N seconds
-#   tests/compare.sh write, shrink, sign            these calls, which tests/write.sh, tests/shrink.sh and tests/sign.sh run
-#   tests/compare.sh write-seconds N                and likewise of the other two
+#   tests/compare.sh write, shrink, sign, stream    these calls, which tests/write.sh and so on run
+#   tests/compare.sh write-seconds N                and likewise of the others
 #   tests/compare.sh rerun CALL FILE OUT PATTERN PLACE EDITION
 #                                                   one log again, as a failed test has printed it
-# SEED chooses the logs. Logs that fail are written to target/failed.
+# SEED chooses the logs, and CASES how many are by chance. Logs that fail are written to target/failed.
 set -u
 cd "$(dirname "$0")/.." || exit 2
 . check/tools.sh
@@ -22,18 +22,32 @@ seed=${SEED:-$(date +%s)}
 programs=target/check/release
 # What the comparison's modes begin with: `dump-` where they are the dump's.
 mode=
-wrapped=(-Wl,--wrap=rvz_replay,--wrap=rvz_judge,--wrap=rvz_dump,--wrap=rvz_dump_read,--wrap=rvz_write,--wrap=rvz_shrink,--wrap=rvz_sign check/compare/wrong.c)
+# The drivers, which all modes share.
+drivers=$PWD/target/check/drivers
+with=()
+! has_stream || with=(-DWITH_STREAM)
+# Where the bytes of a stream's state have what, once docs/STREAM.md says it.
+[ ! -e check/compare/edits.h ] || with+=(-DWITH_EDITS)
+undefined=(-g -fsanitize=undefined -fno-sanitize-recover=all)
+address=("${undefined[@]}" -fsanitize=address -static-lib{asan,ubsan,gcc})
 
+# build_driver NAME FLAG..: unless it is newer than all that it is made of.
 build_driver() {
-    $cc -std=c99 -O2 -Wall -Wextra -Wpedantic -Werror -DWITH_WRITE -DWITH_SHRINK -DWITH_SIGN -Iinclude "${@:2}" -o "$1" check/compare/driver.c \
-        target/staticlib/librivandoze.a
+    local to=$drivers/$1
+    [ -e "$to" ] && [ -z "$(find tests/compare.sh check/compare include target/staticlib/librivandoze.a -newer "$to" -print -quit)" ] && return
+    mkdir -p "$drivers" &&
+        $cc -std=c99 -O2 -Wall -Wextra -Wpedantic -Werror "${with[@]}" -Iinclude "${@:2}" -o "$to.$$" check/compare/driver.c target/staticlib/librivandoze.a &&
+        mv "$to.$$" "$to"
 }
 
 build() {
     must 'compare: the library builds' rt_builds
-    must 'compare: the second program builds' \
-        cargo build --release --offline --jobs 1 --manifest-path check/Cargo.toml --target-dir target/check
-    must 'compare: the driver builds' build_driver "$work/driver"
+    must 'compare: the second program builds' second_builds
+    must 'compare: the driver builds' build_driver plain
+    must 'compare: the driver builds with a library that touches what it may not' build_driver wrong "${wrapped[@]}"
+    must 'compare: the driver builds under UndefinedBehaviorSanitizer' build_driver undefined "${undefined[@]}"
+    must 'compare: the driver builds under AddressSanitizer too' build_driver address "${address[@]}"
+    must 'compare: so does the one with the wrong library' build_driver wrong-address "${address[@]}" "${wrapped[@]}"
 }
 
 # against NAME MODE DRIVER..: the comparison's own lines are the tests.
@@ -46,31 +60,6 @@ against() {
 verdict() {
     "$programs/compare" "$1" "$seed" "$work" "${@:2}" >"$work/out" 2>&1
     echo "$? $(grep -c '^FAIL ' "$work/out") $(grep -c 'without an answer' "$work/out")"
-}
-
-# beside COMMAND..: tests in a process of their own, with a folder of their own, as many at a time as there are processors.
-started=0
-beside() {
-    [ "$(jobs -rp | wc -l)" -lt "$(nproc)" ] || wait -n
-    started=$((started + 1))
-    mkdir "$work/$started"
-    (
-        work=$work/$started
-        "$@" >"$work/said" 2>&1
-        [ $failed -ne 0 ] || : >"$work/good"
-    ) &
-}
-
-# told: waits for all of these, and gives what each has said, in the order in which they were started.
-told() {
-    local one
-    wait
-    for ((one = 1; one <= started; one++)); do
-        cat "$work/$one/said"
-        [ -e "$work/$one/good" ] || failed=1
-        rm -r "${work:?}/$one"
-    done
-    started=0
 }
 
 # gives NAME WANTED MODE DRIVER..: one test, of the verdict.
@@ -110,14 +99,13 @@ again() {
 
 # The driver itself: a library that touches a byte which it may not is seen.
 fences() {
-    must 'compare: the driver builds with a library that touches what it may not' build_driver "$work/wrong" "${wrapped[@]}"
     local wrong
     ulimit -c 0
     for wrong in {reads,writes}-{before,behind}-output reads-{before,behind}-log writes-log writes-output \
         judge-reads-{before,behind}-{log,transcript} judge-writes-{log,transcript}; do
-        beside fenced "$wrong" "${runner[@]}" "$work/wrong"
+        beside fenced "$wrong" "${runner[@]}" "$drivers/wrong"
     done
-    WRONG=not beside gives 'compare: the same with nothing touched is let pass' '0 0 0' short "${runner[@]}" "$work/wrong"
+    WRONG=not beside gives 'compare: the same with nothing touched is let pass' '0 0 0' short "${runner[@]}" "$drivers/wrong"
 }
 
 # fenced WRONG DRIVER..: the driver that does this gives no answer, or a wrong one.
@@ -144,95 +132,60 @@ seen() {
     same "compare: a library that $3 is seen by $1" '1 1 1 1' "$(WRONG=$3 verdict "${mode}few" "${@:4}") $(grep -c "$2" "$work/out")"
 }
 
-# The caller under the tools that watch memory. The sanitizers watch what is compiled from C; valgrind watches the library too.
-watched() {
-    local undefined=(-g -fsanitize=undefined -fno-sanitize-recover=all)
-    local address=("${undefined[@]}" -fsanitize=address -static-lib{asan,ubsan,gcc})
-    must 'compare: the driver builds under UndefinedBehaviorSanitizer' build_driver "$work/undefined" "${undefined[@]}"
-    must 'compare: the driver builds under AddressSanitizer too' build_driver "$work/address" "${address[@]}"
-    must 'compare: so does the one with the wrong library' build_driver "$work/wrong-address" "${address[@]}" "${wrapped[@]}"
+# watch_drivers: for the tools that watch memory. The sanitizers watch what is compiled from C; valgrind watches the library too.
+watch_drivers() {
     need_system64
-    must 'compare: the drivers can be watched' make_system64 "$work"/{driver,wrong,address,wrong-address}
-    local sanitized=("${system[@]}" "$work/wrong-address")
-    local valgrind=("${system[@]}" valgrind --quiet --error-exitcode=9 --exit-on-first-error=yes --leak-check=full)
+    must 'compare: the drivers can be watched' make_system64 "$drivers"/{plain,wrong,address,wrong-address}
+    valgrind=("${system[@]}" valgrind --quiet --error-exitcode=9 --exit-on-first-error=yes --leak-check=full)
     # Leaks are left to valgrind.
     export ASAN_OPTIONS=detect_leaks=0:color=never
+}
 
-    beside against 'compare under UndefinedBehaviorSanitizer' short "${runner[@]}" "$work/undefined"
+watched() {
+    watch_drivers
+    local sanitized=("${system[@]}" "$drivers/wrong-address")
+    beside against 'compare under UndefinedBehaviorSanitizer' short "${runner[@]}" "$drivers/undefined"
     seen_by UndefinedBehaviorSanitizer 'signed integer overflow' passes-INT_MAX "${sanitized[@]}"
-    beside against 'compare under AddressSanitizer' alone "${system[@]}" "$work/address"
+    beside against 'compare under AddressSanitizer' alone "${system[@]}" "$drivers/address"
     seen_by AddressSanitizer 'READ of size 1' "$(echo reads-{before,behind}-{log,output} judge-reads-{before,behind}-transcript)" \
         "${sanitized[@]}"
     seen_by AddressSanitizer 'WRITE of size 1' "$(echo writes-{before,behind}-output)" "${sanitized[@]}"
-    beside against 'compare under valgrind' few "${valgrind[@]}" "$work/driver"
-    seen_by valgrind 'Invalid read of size 1' 'reads-behind-log reads-before-output judge-reads-behind-transcript' "${valgrind[@]}" "$work/wrong"
-    seen_by valgrind 'Invalid write of size 1' writes-behind-output "${valgrind[@]}" "$work/wrong"
-    seen_by valgrind 'depends on uninitialised value' uses-unset-memory "${valgrind[@]}" "$work/wrong"
+    beside against 'compare under valgrind' few "${valgrind[@]}" "$drivers/plain"
+    seen_by valgrind 'Invalid read of size 1' 'reads-behind-log reads-before-output judge-reads-behind-transcript' "${valgrind[@]}" "$drivers/wrong"
+    seen_by valgrind 'Invalid write of size 1' writes-behind-output "${valgrind[@]}" "$drivers/wrong"
+    seen_by valgrind 'depends on uninitialised value' uses-unset-memory "${valgrind[@]}" "$drivers/wrong"
 }
 
-# call NAME MISTAKES: another call against the second program, under the tools that watch memory too, and so many mistakes that are seen.
-call() {
-    mode=$1-
-    beside against "$1" "$1-full" "${runner[@]}" "$work/driver"
-    beside gives "$1: a driver without a mistake is let pass" '0 0 0' "$1-short" "$programs/call-stand-in" none
+# mistaken NAME STAND-IN MISTAKES: a right driver is let pass, and so many mistakes are seen.
+mistaken() {
     local mistake mistakes
-    mapfile -t mistakes < <("$programs/call-stand-in" list "$1")
-    same "$1: there are mistakes to make" "$2" ${#mistakes[@]}
+    beside gives "$1: a driver without a mistake is let pass" '0 0 0' "$1-short" "$programs/$2" none
+    mapfile -t mistakes < <("$programs/$2" list "$1")
+    same "$1: there are mistakes to make" "$3" ${#mistakes[@]}
     for mistake in "${mistakes[@]}"; do
-        beside gives "$1: a driver with the mistake $mistake is seen" '1 1 0' "$1-short" "$programs/call-stand-in" "$mistake"
+        beside gives "$1: a driver with the mistake $mistake is seen" '1 1 0' "$1-short" "$programs/$2" "$mistake"
     done
-    must "$1: the driver builds with a library that touches what it may not" build_driver "$work/wrong" "${wrapped[@]}"
+}
+
+# compared NAME WRONG..: other calls against the second program, under the tools that watch memory too; each of these of a wrong library is
+# seen. What the tools see at all is told by tests/compare.sh.
+compared() {
+    mode=$1-
+    beside against "$1" "$1-full" "${runner[@]}" "$drivers/plain"
     ulimit -c 0
     local wrong
-    for wrong in "$1"-{{reads,writes}-{before,behind}-output,reads-{before,behind}-input,writes-input}; do
-        beside fenced "$wrong" "${runner[@]}" "$work/wrong"
+    for wrong in "${@:2}"; do
+        beside fenced "$wrong" "${runner[@]}" "$drivers/wrong"
     done
-    local address=(-g -fsanitize=undefined,address -fno-sanitize-recover=all -static-lib{asan,ubsan,gcc})
-    must "$1: the driver builds under the sanitizers" build_driver "$work/address" "${address[@]}"
-    need_system64
-    must "$1: the drivers can be watched" make_system64 "$work"/{driver,address}
-    export ASAN_OPTIONS=detect_leaks=0:color=never
-    beside against "$1 under AddressSanitizer" "$1-few" "${system[@]}" "$work/address"
-    beside against "$1 under valgrind" "$1-few" "${system[@]}" valgrind --quiet --error-exitcode=9 --exit-on-first-error=yes --leak-check=full \
-        "$work/driver"
-    told
-}
-
-# The dump and its reader, in the same ways; what the tools see at all is told by the others.
-dumps() {
-    mode=dump-
-    beside against dump dump-full "${runner[@]}" "$work/driver"
-    beside gives 'dump: a driver without a mistake is let pass' '0 0 0' dump-short "$programs/dump-stand-in" none
-    local mistake mistakes wrong
-    mapfile -t mistakes < <("$programs/dump-stand-in" list)
-    same 'dump: there are mistakes to make' 81 ${#mistakes[@]}
-    for mistake in "${mistakes[@]}"; do
-        beside gives "dump: a driver with the mistake $mistake is seen" '1 1 0' dump-short "$programs/dump-stand-in" "$mistake"
-    done
-
-    local address=(-g -fsanitize=undefined,address -fno-sanitize-recover=all -static-lib{asan,ubsan,gcc})
-    must 'dump: the driver builds with a library that touches what it may not' build_driver "$work/wrong" "${wrapped[@]}"
-    must 'dump: the driver builds under the sanitizers' build_driver "$work/address" "${address[@]}"
-    must 'dump: so does the one with the wrong library' build_driver "$work/wrong-address" "${address[@]}" "${wrapped[@]}"
-    ulimit -c 0
-    for wrong in dump{,-read}-{{reads,writes}-{before,behind}-output,reads-{before,behind}-input,writes-input}; do
-        beside fenced "$wrong" "${runner[@]}" "$work/wrong"
-    done
-
-    need_system64
-    must 'dump: the drivers can be watched' make_system64 "$work"/{driver,address,wrong-address}
-    local valgrind=("${system[@]}" valgrind --quiet --error-exitcode=9 --exit-on-first-error=yes --leak-check=full)
-    export ASAN_OPTIONS=detect_leaks=0:color=never
-    beside against 'dump under AddressSanitizer' dump-few "${system[@]}" "$work/address"
-    beside against 'dump under valgrind' dump-few "${valgrind[@]}" "$work/driver"
-    seen_by AddressSanitizer 'WRITE of size 1' dump-read-writes-behind-output "${system[@]}" "$work/wrong-address"
-    told
+    watch_drivers
+    beside against "$1 under AddressSanitizer" "$1-few" "${system[@]}" "$drivers/address"
+    beside against "$1 under valgrind" "$1-few" "${valgrind[@]}" "$drivers/plain"
 }
 
 case ${1:-} in
 '')
     build
-    beside against compare full "${runner[@]}" "$work/driver"
+    beside against compare full "${runner[@]}" "$drivers/plain"
     must 'compare: the answering program builds' \
         $cc -std=c99 -O2 -Wall -Wextra -Werror -Iinclude -o "$work/answers" check/rates/answers.c target/staticlib/librivandoze.a
     beside rates "${runner[@]}" "$work/answers"
@@ -242,27 +195,46 @@ case ${1:-} in
     ;;
 dump)
     build
-    dumps
+    mistaken dump dump-stand-in 81
+    compared dump dump{,-read}-{{reads,writes}-{before,behind}-output,reads-{before,behind}-input,writes-input}
+    seen_by AddressSanitizer 'WRITE of size 1' dump-read-writes-behind-output "${system[@]}" "$drivers/wrong-address"
+    told
     ;;
-write)
+write | shrink | sign)
     build
-    call write 58
+    declare -A mistakes=([write]=58 [shrink]=46 [sign]=52)
+    mistaken "$1" call-stand-in "${mistakes[$1]}"
+    compared "$1" "$1"-{{reads,writes}-{before,behind}-output,reads-{before,behind}-input,writes-input}
+    [ "$1" != write ] || for wrong in write-notes-{reads-{before,behind}-input,writes-input}; do
+        beside fenced "$wrong" "${runner[@]}" "$drivers/wrong"
+    done
+    told
     ;;
-shrink)
+stream)
     build
-    call shrink 46
+    mistaken stream call-stand-in 58
+    mistaken far call-stand-in 16
+    if has_stream && [ -e check/compare/edits.h ]; then
+        beside against stream far-full "${runner[@]}" "$drivers/plain"
+    else
+        echo 'stream: there is no check/compare/edits.h, so no state is edited'
+    fi
+    if has_stream; then
+        # Where x86-64 is emulated this would take minutes.
+        [ "$(uname -m)" != x86_64 ] || beside against stream counted-full "$drivers/plain"
+        compared stream stream-writes-{behind-output,input,behind-state} stream-spoils-state-{on-6,on-19,behind-a-refusal,at-the-end,when-counted}
+    else
+        echo 'stream: include/rivandoze.h has no rvz_stream_start, so only the comparison itself is tried'
+    fi
+    told
     ;;
-sign)
+seconds | dump-seconds | write-seconds | shrink-seconds | sign-seconds | stream-seconds)
     build
-    call sign 52
-    ;;
-seconds | dump-seconds | write-seconds | shrink-seconds | sign-seconds)
-    build
-    "$programs/compare" "$1" "${2:?a number of seconds}" "$seed" target/failed "${runner[@]}" "$work/driver" || failed=1
+    "$programs/compare" "$1" "${2:?a number of seconds}" "$seed" target/failed "${runner[@]}" "$drivers/plain" || failed=1
     ;;
 rerun)
     build
-    "$programs/compare" "$@" "${runner[@]}" "$work/driver" || failed=1
+    "$programs/compare" "$@" "${runner[@]}" "$drivers/plain" || failed=1
     ;;
 *)
     sed -n '2,/^set/s/^# \{0,1\}//p' "$0"

@@ -1,6 +1,6 @@
 #!/usr/bin/env bash
 # The examples as a user meets them: built by gcc and clang, run on every sample log, and built once more against the installed files;
-# and what the README shows.
+# and what the README shows. SEED chooses the logs of a folder.
 set -u
 cd "$(dirname "$0")/.." || exit 2
 . check/tools.sh
@@ -10,6 +10,7 @@ need make make
 need pkg-config pkg-config
 work=$(mktemp -d)
 trap 'rm -rf "$work"' EXIT
+seed=${SEED:-$(date +%s)}
 second=target/check/release/rvz-check
 strict=(-std=c99 -O2 -Wall -Wextra -Wpedantic -Werror)
 cxx=(-x c++ -std=c++11 -Wall -Wextra -Wpedantic -Werror -fsyntax-only -Iinclude)
@@ -21,21 +22,14 @@ fi
 
 build() {
     must 'examples: the library builds' rt_builds
-    must 'examples: the second program builds' \
-        cargo build --release --offline --jobs 1 --manifest-path check/Cargo.toml --target-dir target/check
-    must 'examples: scan.c is C99 by gcc' $cc "${strict[@]}" -Iinclude -o "$work/gcc" examples/scan.c target/staticlib/librivandoze.a
-    must 'examples: scan.c is C99 by clang' "${clang[@]}" "${strict[@]}" -Iinclude -o "$work/clang" examples/scan.c target/staticlib/librivandoze.a
-    must 'examples: scan.c and the header are C++ by g++' g++ "${cxx[@]}" examples/scan.c
+    must 'examples: the second program builds' second_builds
+    local name
+    for name in scan verdict archive record folder; do
+        must "examples: $name.c is C99 by gcc" $cc "${strict[@]}" -Iinclude -o "$work/$name" "examples/$name.c" target/staticlib/librivandoze.a
+        must "examples: $name.c is C99 by clang" "${clang[@]}" "${strict[@]}" -Iinclude -o "$work/$name-clang" "examples/$name.c" target/staticlib/librivandoze.a
+        must "examples: $name.c and the header are C++ by g++" g++ "${cxx[@]}" "examples/$name.c"
+    done
     must 'examples: scan.c and the header are C++ by clang' clang++ "${cxx[@]}" examples/scan.c
-    must 'examples: verdict.c is C99 by gcc' $cc "${strict[@]}" -Iinclude -o "$work/verdict" examples/verdict.c target/staticlib/librivandoze.a
-    must 'examples: verdict.c is C99 by clang' "${clang[@]}" "${strict[@]}" -Iinclude -o "$work/verdict-clang" examples/verdict.c target/staticlib/librivandoze.a
-    must 'examples: verdict.c is C++ by g++' g++ "${cxx[@]}" examples/verdict.c
-    must 'examples: archive.c is C99 by gcc' $cc "${strict[@]}" -Iinclude -o "$work/archive" examples/archive.c target/staticlib/librivandoze.a
-    must 'examples: archive.c is C99 by clang' "${clang[@]}" "${strict[@]}" -Iinclude -o "$work/archive-clang" examples/archive.c target/staticlib/librivandoze.a
-    must 'examples: archive.c is C++ by g++' g++ "${cxx[@]}" examples/archive.c
-    must 'examples: record.c is C99 by gcc' $cc "${strict[@]}" -Iinclude -o "$work/record" examples/record.c target/staticlib/librivandoze.a
-    must 'examples: record.c is C99 by clang' "${clang[@]}" "${strict[@]}" -Iinclude -o "$work/record-clang" examples/record.c target/staticlib/librivandoze.a
-    must 'examples: record.c is C++ by g++' g++ "${cxx[@]}" examples/record.c
 }
 
 # scans SCAN NAME LOG: what it prints and how it ends against the file beside the log.
@@ -51,8 +45,8 @@ samples() {
         name=$(basename "$log" .log)
         "$second" from-text <"${log%.log}.txt" | cmp -s - "$log"
         same "examples: $name is what its text says" 0 $?
-        scans "$work/gcc" "examples: scan, by gcc, of $name" "$log"
-        scans "$work/clang" "examples: scan, by clang, of $name" "$log"
+        scans "$work/scan" "examples: scan, by gcc, of $name" "$log"
+        scans "$work/scan-clang" "examples: scan, by clang, of $name" "$log"
         same "examples: the readings of $name are the second program's" "$("$second" <"$log" | grep -v applied)" \
             "$(sed -n 's/^record .* = \([0-9]*\).*/\1/p' "${log%.log}.out")"
     done
@@ -141,13 +135,38 @@ TEXT
     same 'examples: record of no number' '2 usage: record ENCODER FILE' "$? $(cat "$work/out")"
 }
 
+# A small folder of logs: a line for each is what the second program and the program say of it alone, and the totals are those of the lines, by
+# one process and by several at a time.
+folders() {
+    local log lines totals
+    echo "seed $seed"
+    must 'examples: a folder of logs' check/many.sh "$work/many" "$(cases 200)" "$seed"
+    lines=$(run64 "$work/folder" "$work"/many/*.log)
+    same 'examples: folder says of each log what the second program says of it alone' \
+        "$(for log in "$work"/many/*.log; do echo "$log $("$second" <"$log" | tail -n 1)"; done)" "$lines"
+    same 'examples: and what rvz says' "$(for log in "$work"/many/*.log; do run64 target/bin/rvz <"$log" | tail -n 1; done)" "$(cut -d ' ' -f 2- <<<"$lines")"
+    totals=$(awk '{ applied += $3; refused += $5 != 0 } END { print "logs", NR, "applied", applied, "refused", refused }' <<<"$lines")
+    same 'examples: folder has the totals of the lines' "$totals status 0" "$(run64 "$work/folder-clang" -t "$work"/many/*.log) status $?"
+    same 'examples: several at a time have the same lines' "$lines" \
+        "$(find "$work/many" -name '*.log' -print0 | xargs -0 -P 4 -n 7 "${runner[@]}" "$work/folder" | sort)"
+    same 'examples: and the same totals' "$totals" "$(find "$work/many" -name '*.log' -print0 | xargs -0 -P 4 -n 7 "${runner[@]}" "$work/folder" -t |
+        awk '{ logs += $2; applied += $4; refused += $6 } END { print "logs", logs, "applied", applied, "refused", refused }')"
+    same 'examples: some of these logs are refused, and some are not' yes "$(awk '{ exit !(0 < $6 && $6 < $2) }' <<<"$totals" && echo yes)"
+    same 'examples: folder of the samples' "$(for log in examples/logs/*.log; do echo "$log $("$second" <"$log" | tail -n 1)"; done)" \
+        "$(run64 "$work/folder" examples/logs/*.log)"
+    same 'examples: folder of a file that is not there, and of one that is' 'examples/logs/whole.log applied 5 refused 0 status 2' \
+        "$(run64 "$work/folder" "$work/none" examples/logs/whole.log 2>"$work/out") status $?"
+    run64 "$work/folder" -t 2>"$work/out"
+    same 'examples: folder without a file' '2 usage: folder [-t] FILE..' "$? $(cat "$work/out")"
+}
+
 other_files() {
     head -c 32769 /dev/zero >"$work/long"
     same 'examples: scan of a log that is too long' 'the log is refused by 1: the log is longer than 32,768 bytes' \
-        "$(run64 "$work/gcc" "$work/long")"
-    run64 "$work/gcc" "$work/none" 2>"$work/out"
+        "$(run64 "$work/scan" "$work/long")"
+    run64 "$work/scan" "$work/none" 2>"$work/out"
     same 'examples: scan of no file' 2 $?
-    run64 "$work/gcc" 2>"$work/out"
+    run64 "$work/scan" 2>"$work/out"
     same 'examples: scan without a file' "2 usage: scan FILE" "$? $(cat "$work/out")"
 }
 
@@ -200,6 +219,7 @@ samples
 transcripts
 archives
 recorded
+folders
 other_files
 installed
 readme

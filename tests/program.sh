@@ -12,8 +12,7 @@ second=target/check/release/rvz-check
 
 build() {
     must 'program: the program builds' rt_builds
-    must 'program: the second program builds' \
-        cargo build --release --offline --jobs 1 --manifest-path check/Cargo.toml --target-dir target/check
+    must 'program: the second program builds' second_builds
 }
 
 # rvz ARGUMENT..: the program, on standard input. A status other than 0 is part of what it says.
@@ -92,9 +91,10 @@ by_length() {
 
 # Logs by chance, a third of them damaged at the end, against the second program, byte by byte.
 by_chance() {
-    echo "seed $seed"
     local i log
-    for i in {1..60}; do
+    local most
+    most=$(cases 60)
+    for ((i = 1; i <= most; i++)); do
         "$second" generate $((seed + i)) 2047 4294967295 40 >"$work/log"
         [ $((i % 3)) -ne 0 ] || truncate -s "-$((i % 7))" "$work/log"
         rvz <"$work/log" >"$work/got"
@@ -108,7 +108,7 @@ by_chance() {
         failed=1
         return
     done
-    echo 'ok program: 60 logs by chance'
+    echo "ok program: $most logs by chance"
 }
 
 # judges NAME WANTED: one test of `rvz judge` on the log and the transcript at hand.
@@ -173,7 +173,9 @@ LOG
 # Logs by chance, some refused, with right, negated and damaged transcripts.
 judge_by_chance() {
     local i
-    for i in {1..60}; do
+    local most
+    most=$(cases 60)
+    for ((i = 1; i <= most; i++)); do
         "$second" generate $((seed + i)) 300 4294967295 20 >"$work/log"
         "$second" transcript $([ $((i % 2)) -eq 0 ] || echo negated) <"$work/log" >"$work/transcript"
         [ $((i % 5)) -ne 0 ] || printf '\1' | dd of="$work/transcript" bs=1 seek=$((8 * (i % 3))) conv=notrunc status=none
@@ -184,7 +186,7 @@ judge_by_chance() {
         same "program: judge, made log $((seed + i))" "$(cat "$work/wanted")" "$(cat "$work/got")"
         return
     done
-    echo 'ok program: judge, 60 transcripts by chance'
+    echo "ok program: judge, $most transcripts by chance"
 }
 
 judge_usage() {
@@ -258,7 +260,9 @@ shrink_by_hand() {
 # Logs by chance: the smaller log has the same readings, and shrinking it again changes no byte.
 shrink_by_chance() {
     local i dropped=0
-    for i in {1..40}; do
+    local most
+    most=$(cases 40)
+    for ((i = 1; i <= most; i++)); do
         "$second" generate $((seed + i)) 600 4294967295 0 >"$work/log"
         run64 target/bin/rvz shrink <"$work/log" >"$work/smaller" 2>"$work/said"
         if [ -s "$work/said" ]; then
@@ -275,7 +279,7 @@ shrink_by_chance() {
         same "program: shrink, made log $((seed + i))" 'the same readings, and once is enough' 'not so'
         return
     done
-    same 'program: shrink, some of 40 logs by chance lose records' yes "$([ "$dropped" -gt 0 ] && echo yes)"
+    same "program: shrink, some of $most logs by chance lose records" yes "$([ "$dropped" -gt 0 ] && echo yes)"
 }
 
 # signs NAME WANTED: one test of `rvz sign` on the log at hand.
@@ -412,7 +416,9 @@ write_by_length() {
 # Logs by chance that replay, or are refused by 9 or more: their parts written again give their bytes.
 write_by_chance() {
     local i refused edition made=0
-    for i in {1..60}; do
+    local most
+    most=$(cases 60)
+    for ((i = 1; i <= most; i++)); do
         "$second" generate $((seed + i)) 300 4294967295 20 >"$work/log"
         refused=$("$second" <"$work/log" | sed -n 's/^applied .* refused //p')
         [ "$refused" -eq 0 ] || continue
@@ -435,19 +441,23 @@ write_usage() {
     same 'program: write with two files is the usage' "$usage" "$(rvz write 1 "$work/log" "$work/log" </dev/null)"
 }
 
+judged() {
+    judge_by_hand
+    judge_by_chance
+    judge_usage
+}
+
+written() {
+    write_by_hand
+    write_by_length
+    write_by_chance
+    write_usage
+}
+
 build
-by_hand
-by_length
-by_chance
-shrink_by_hand
-shrink_by_chance
-sign_by_hand
-sign_by_chance
-judge_by_hand
-judge_by_chance
-judge_usage
-write_by_hand
-write_by_length
-write_by_chance
-write_usage
+echo "seed $seed"
+for tests in by_hand by_length by_chance shrink_by_hand shrink_by_chance sign_by_hand sign_by_chance judged written; do
+    beside $tests
+done
+told
 exit $failed

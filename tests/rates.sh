@@ -23,14 +23,19 @@ compare() {
     echo "seed $seed"
     "$work/rates" ask "$seed" >"$work/requests"
     run64 "$work/answers" <"$work/requests" >"$work/given"
-    must "rates: $(wc -l <"$work/requests") requests answered as by trying every pair" \
-        "$work/rates" compare "$work/requests" "$work/given"
-    must 'rates: no rate in range is midway between two periods' "$work/rates" midway
-    local mistake
+    local rates=$work/rates asked=("$work/requests" "$work/given") mistake
+    beside must 'rates: no rate in range is midway between two periods' "$rates" midway
+    beside must "rates: $(wc -l <"$work/requests") requests answered as by trying every pair" "$rates" compare "${asked[@]}"
     for mistake in rounds-period larger-divider strict-tolerance four-dividers cut-to-64-bits whole-hertz period-left-out spi-period-halved; do
-        "$work/rates" wrong $mistake "$work/requests" "$work/given" >"$work/out" 2>&1
-        same "rates: the comparison sees a finder of the kind $mistake" 1 $?
+        beside seen $mistake "$rates" wrong $mistake "${asked[@]}"
     done
+    told
+}
+
+# seen MISTAKE COMMAND..: the comparison sees it.
+seen() {
+    "${@:2}" >"$work/out" 2>&1
+    same "rates: the comparison sees a finder of the kind $1" 1 $?
 }
 
 header() {

@@ -11,12 +11,12 @@ work=$(mktemp -d)
 trap 'rm -rf "$work"' EXIT
 seed=${SEED:-$(date +%s)}
 second=target/check/release/rvz-check
+waves=$work/waves
 
 build() {
     must 'waveform: the library and the program build' rt_builds
-    must 'waveform: the second program builds' \
-        cargo build --release --offline --jobs 1 --manifest-path check/Cargo.toml --target-dir target/check
-    must 'waveform: waves.c is C99' $cc -std=c99 -O2 -Wall -Wextra -Wpedantic -Werror -Iinclude -o "$work/waves" examples/waves.c target/staticlib/librivandoze.a
+    must 'waveform: the second program builds' second_builds
+    must 'waveform: waves.c is C99' $cc -std=c99 -O2 -Wall -Wextra -Wpedantic -Werror -Iinclude -o "$waves" examples/waves.c target/staticlib/librivandoze.a
     must 'waveform: waves.c is C++' g++ -x c++ -std=c++11 -Wall -Wextra -Wpedantic -Werror -fsyntax-only -Iinclude examples/waves.c
 }
 
@@ -77,25 +77,35 @@ counted() {
 of() {
     made "$1" "$2" | "$second" from-text >"$work/log"
     run64 target/bin/rvz dump <"$work/log" >"$work/dump.vcd" 2>"$work/error"
-    same "waveform: $1 $2 is dumped" "$(run64 "$work/waves" "$work/log" | cksum)" "$(cksum <"$work/dump.vcd")"
+    same "waveform: $1 $2 is dumped" "$(run64 "$waves" "$work/log" | cksum)" "$(cksum <"$work/dump.vcd")"
+}
+
+any_pins() {
+    of any "$1"
+    through "any $1" "$work/dump.vcd"
+}
+
+steps() {
+    local i cntr
+    of steps "$1"
+    through "steps $1" "$work/dump.vcd"
+    run64 target/bin/rvz <"$work/log" >"$work/readings"
+    for i in 0 1 2 3 4 5 6 7 8 9; do
+        cntr=$(sed -n "$((i + 1))p" "$work/readings")
+        [ "$cntr" -lt 2147483648 ] || cntr=$((cntr - 4294967296))
+        same "waveform: sigrok counts encoder $i of steps $1 as the replay does" "$cntr" "$(counted "$i" "$work/dump.vcd")"
+    done
 }
 
 made_logs() {
-    local n i cntr
-    for n in 1 2 3 4 5 6; do
-        of any "$n"
-        through "any $n" "$work/dump.vcd"
+    local n
+    for ((n = 1; n <= $(cases 3); n++)); do
+        beside steps $n
     done
-    for n in 1 2 3; do
-        of steps "$n"
-        through "steps $n" "$work/dump.vcd"
-        run64 target/bin/rvz <"$work/log" >"$work/readings"
-        for i in 0 1 2 3 4 5 6 7 8 9; do
-            cntr=$(sed -n "$((i + 1))p" "$work/readings")
-            [ "$cntr" -lt 2147483648 ] || cntr=$((cntr - 4294967296))
-            same "waveform: sigrok counts encoder $i of steps $n as the replay does" "$cntr" "$(counted "$i" "$work/dump.vcd")"
-        done
+    for ((n = 1; n <= $(cases 6); n++)); do
+        beside any_pins $n
     done
+    told
 }
 
 page() {
@@ -105,7 +115,7 @@ page() {
         '100 ns bank 0 encoder 3 pins 00
 200 ns bank 0 encoder 3 pins 11
 200 ns bank 1 encoder 0 pins 01
-400 ns bank 0 encoder 3 pins 00' "$(run64 "$work/waves" - "$work/page.vcd")"
+400 ns bank 0 encoder 3 pins 00' "$(run64 "$waves" - "$work/page.vcd")"
     same 'waveform: sigrok finds the wires of docs/WAVEFORM.md' 'bank0_encoder3_A bank0_encoder3_B bank1_encoder0_A bank1_encoder0_B' \
         "$(sigrok-cli -i "$work/page.vcd" -I vcd --show 2>/dev/null | sed -n 's/^- \(.*\): logic$/\1/p' | paste -s -d ' ')"
 }
@@ -118,7 +128,7 @@ longest() {
     }' | "$second" from-text >"$work/log"
     run64 target/bin/rvz dump <"$work/log" >"$work/dump.vcd"
     same 'waveform: the longest dump of one bank' '23371 bytes, 1023 entries' \
-        "$(wc -c <"$work/dump.vcd") bytes, $(run64 "$work/waves" - "$work/dump.vcd" | wc -l) entries"
+        "$(wc -c <"$work/dump.vcd") bytes, $(run64 "$waves" - "$work/dump.vcd" | wc -l) entries"
 }
 
 refusals() {
@@ -127,7 +137,7 @@ refusals() {
     same 'waveform: it leaves standard output empty' '' "$(run64 target/bin/rvz dump <"$work/log" 2>/dev/null)"
     same 'waveform: no log' 'refused 2' "$(run64 target/bin/rvz dump </dev/null 2>&1 >/dev/null)"
     printf '$timescale 1 ns $end\n' >"$work/cut.vcd"
-    same 'waveform: no dump' 'refused 20' "$(run64 "$work/waves" - "$work/cut.vcd" 2>&1)"
+    same 'waveform: no dump' 'refused 20' "$(run64 "$waves" - "$work/cut.vcd" 2>&1)"
 }
 
 build

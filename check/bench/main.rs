@@ -1,18 +1,22 @@
 //! The library beside the second program: nanoseconds in one process, in turns, and instructions under callgrind.
-//! The rows of the dump and of the sign are there by `--cfg with_dump` and `--cfg with_sign`.
+//! The rows of the stream are there by `--cfg with_stream`.
 //!
 //! usage: bench logs FOLDER           makes what each row is about, a file each
-//!        bench times FOLDER ROUNDS   nanoseconds a record or a request: a line `ROW|LIBRARY|SECOND` for each row
+//!        bench times FOLDER ROUNDS   nanoseconds a record or a request: a line `ROW|LIBRARY|SECOND` for each row,
+//!                                    and behind it `|REPLAY`, the library's replay of the same log, where it does more
 //!        bench counts FOLDER         instructions, in the same way
 //!        bench runs FOLDER           what `counts` has callgrind watch
 
 mod rows;
+mod sides;
 
-use rivandoze_check::packed;
 use rivandoze_check::reference::judge::transcript;
-use rivandoze_check::reference::log::RECORDS_MAX;
+use rivandoze_check::reference::log::{Log, LOG_MAX, RECORDS_MAX};
 use rivandoze_check::reference::rate::HIGHEST_PWM_RATE;
+#[cfg(with_stream)]
+use rivandoze_check::reference::record::RECORD_LEN;
 use rows::{requests, Does, Row, ROWS};
+use sides::{Side, LIBRARY, SECOND};
 use std::path::Path;
 use std::process::Command;
 use std::time::Instant;
@@ -20,6 +24,14 @@ use std::{env, fs};
 
 /// The most bytes of output that any call has for a record.
 const OUT_LEN: usize = 32;
+/// What the writer puts in front of the records: as much as there is room for before a full log.
+const NOTES: &[u8; 8] = b"measured";
+/// What a stream is given at a time.
+#[cfg(with_stream)]
+const CHUNK_LEN: usize = 4_096;
+/// More than the state of a stream takes.
+#[cfg(with_stream)]
+const STATE_LEN: usize = 65_536;
 /// Rounds between two looks at the clock.
 const AT_A_TIME: u64 = 8;
 /// The rounds of two runs under callgrind. Only their difference is told, so that what a run does but once falls out.
@@ -29,87 +41,52 @@ const MORE: u64 = 3;
 const SAME: u64 = 1 << 8;
 const BOTH: u64 = 3 << 8;
 
-extern "C" {
-    fn rvz_replay(log: *const u8, log_len: usize, out: *mut u8, out_len: usize) -> u64;
-    fn rvz_judge(
-        log: *const u8,
-        log_len: usize,
-        transcript: *const u8,
-        transcript_len: usize,
-    ) -> u64;
-    #[cfg(with_dump)]
-    fn rvz_dump(log: *const u8, log_len: usize, out: *mut u8, out_len: usize) -> u64;
-    #[cfg(with_sign)]
-    fn rvz_sign(log: *const u8, log_len: usize, out: *mut u8, out_len: usize) -> u64;
-    fn rvz_find_pwm(rate: u64, tolerance: u64) -> u64;
-    fn rvz_find_spi(rate: u64, tolerance: u64) -> u64;
-}
-
-#[derive(Clone, Copy)]
-struct Side {
-    replay: fn(&[u8], &mut [u8]) -> u64,
-    judge: fn(&[u8], &[u8]) -> u64,
-    #[cfg(with_dump)]
-    dump: fn(&[u8], &mut [u8]) -> u64,
-    #[cfg(with_sign)]
-    sign: fn(&[u8], &mut [u8]) -> u64,
-    find_pwm: fn(u64, u64) -> u64,
-    find_spi: fn(u64, u64) -> u64,
-}
-
-const LIBRARY: Side = Side {
-    // SAFETY: both slices are whole, apart and never null.
-    replay: |log, out| unsafe { rvz_replay(log.as_ptr(), log.len(), out.as_mut_ptr(), out.len()) },
-    // SAFETY: both slices are whole and never null.
-    judge: |log, transcript| unsafe {
-        rvz_judge(
-            log.as_ptr(),
-            log.len(),
-            transcript.as_ptr(),
-            transcript.len(),
-        )
-    },
-    // SAFETY: as for the replay.
-    #[cfg(with_dump)]
-    dump: |log, out| unsafe { rvz_dump(log.as_ptr(), log.len(), out.as_mut_ptr(), out.len()) },
-    // SAFETY: as for the replay.
-    #[cfg(with_sign)]
-    sign: |log, out| unsafe { rvz_sign(log.as_ptr(), log.len(), out.as_mut_ptr(), out.len()) },
-    // SAFETY: numbers only.
-    find_pwm: |rate, tolerance| unsafe { rvz_find_pwm(rate, tolerance) },
-    find_spi: |rate, tolerance| unsafe { rvz_find_spi(rate, tolerance) },
-};
-
-const SECOND: Side = Side {
-    replay: packed::replay,
-    judge: packed::judge,
-    #[cfg(with_dump)]
-    dump: packed::dump,
-    #[cfg(with_sign)]
-    sign: packed::sign,
-    find_pwm: packed::find_pwm,
-    find_spi: packed::find_spi,
-};
-
 /// One row of one side.
 struct Bench {
     side: Side,
     does: Does,
     asked: Vec<u8>,
+    edition: u64,
+    records: Vec<u8>,
     transcript: Vec<u8>,
+    #[cfg(with_stream)]
+    state: Vec<u8>,
     out: Vec<u8>,
 }
 
 impl Bench {
-    fn new(folder: &Path, row: &Row, side: Side) -> Self {
+    fn new(folder: &Path, row: &Row, does: Does, side: Side) -> Self {
         let asked = fs::read(folder.join(row.name)).expect("what the row is about");
+        let (edition, records) = match Log::open(&asked) {
+            Ok(log) => (log.edition.number().into(), log.record_bytes.to_vec()),
+            Err(_) => (0, Vec::new()),
+        };
         Bench {
             side,
-            does: row.does,
+            does,
             transcript: transcript(&asked, |count| count),
             asked,
+            edition,
+            records,
+            #[cfg(with_stream)]
+            state: vec![0; STATE_LEN],
             out: vec![0; RECORDS_MAX * OUT_LEN],
         }
+    }
+
+    /// Those of a row: the library's, the second program's, and the library's replay where the row does more with a
+    /// log than that.
+    fn all_of(folder: &Path, row: &Row) -> Vec<Self> {
+        let replays = match row.does {
+            Does::Replay | Does::Write | Does::Find => None,
+            #[cfg(with_stream)]
+            Does::StreamEach => None,
+            _ => Some((Does::Replay, LIBRARY)),
+        };
+        let all = [(row.does, LIBRARY), (row.does, SECOND)].into_iter();
+        let all = all.chain(replays);
+        all.map(|(does, side)| Bench::new(folder, row, does, side))
+            .collect()
     }
 
     /// All that is answered, as one number.
@@ -123,28 +100,36 @@ impl Bench {
     }
 
     fn round(&mut self) -> u64 {
+        let (side, log, out) = (self.side, &self.asked, &mut self.out);
         match self.does {
             Does::Replay => {
-                let word = (self.side.replay)(&self.asked, &mut self.out);
-                assert_eq!(word, (RECORDS_MAX as u64) << 8, "not all is applied");
+                let word = (side.replay)(log, out);
+                assert_eq!(word, ALL_APPLIED << 8, "not all is applied");
                 word
             }
             Does::Judge => {
-                let word = (self.side.judge)(&self.asked, &self.transcript);
+                let word = (side.judge)(log, &self.transcript);
                 assert!([SAME, BOTH].contains(&word), "not judged to be right");
                 word
             }
-            #[cfg(with_dump)]
-            Does::Dump => {
-                let word = (self.side.dump)(&self.asked, &mut self.out);
-                assert!(word & 0xFF == 0 && word > 0, "not dumped");
+            Does::Write => {
+                let word = (side.write)(self.edition, NOTES, &self.records, out);
+                assert_eq!(word, (LOG_MAX as u64) << 8, "not written");
                 word
             }
-            #[cfg(with_sign)]
-            Does::Sign => {
-                let word = (self.side.sign)(&self.asked, &mut self.out);
-                assert!(word & 0xFF == 0 && word > 0, "no stretch");
-                word
+            Does::Dump => made((side.dump)(log, out)),
+            Does::Sign => made((side.sign)(log, out)),
+            Does::Shrink => made((side.shrink)(log, out)),
+            #[cfg(with_stream)]
+            Does::Stream | Does::StreamEach => {
+                let chunk = match self.does {
+                    Does::Stream => CHUNK_LEN,
+                    _ => RECORD_LEN,
+                };
+                let applied =
+                    (side.stream)(self.edition, &self.records, chunk, &mut self.state, out);
+                assert_eq!(applied, ALL_APPLIED, "not all is applied");
+                applied
             }
             Does::Find => requests(&self.asked).fold(0, |sum, (rate, tolerance)| {
                 with(sum, self.find(rate, tolerance))
@@ -159,6 +144,14 @@ impl Bench {
             (self.side.find_pwm)(rate, tolerance)
         }
     }
+}
+
+const ALL_APPLIED: u64 = RECORDS_MAX as u64;
+
+/// The word of a call that has made something.
+fn made(word: u64) -> u64 {
+    assert!(word & 0xFF == 0 && word > 0, "nothing is made");
+    word
 }
 
 fn with(sum: u64, answer: u64) -> u64 {
@@ -184,14 +177,14 @@ fn logs(folder: &Path) {
     }
 }
 
-/// The best of all turns of each side.
+/// The best of all turns of each.
 fn times(folder: &Path, rounds: u64) {
     for row in ROWS {
-        let mut sides = [LIBRARY, SECOND].map(|side| Bench::new(folder, row, side));
-        assert_same(row, sides.iter_mut().map(|bench| bench.run(1)));
-        let mut best = [f64::INFINITY; 2];
+        let mut all = Bench::all_of(folder, row);
+        assert_same(row, all[..2].iter_mut().map(|bench| bench.run(1)));
+        let mut best = vec![f64::INFINITY; all.len()];
         for _ in 0..rounds {
-            for (bench, best) in sides.iter_mut().zip(&mut best) {
+            for (bench, best) in all.iter_mut().zip(&mut best) {
                 let start = Instant::now();
                 for _ in 0..AT_A_TIME {
                     bench.round();
@@ -199,7 +192,7 @@ fn times(folder: &Path, rounds: u64) {
                 *best = best.min(start.elapsed().as_secs_f64());
             }
         }
-        tell(row, best.map(|seconds| seconds * 1e9 / AT_A_TIME as f64));
+        tell(row, best.iter().map(|best| best * 1e9 / AT_A_TIME as f64));
     }
 }
 
@@ -223,22 +216,29 @@ fn counts(folder: &Path) {
         .filter_map(|line| line.strip_prefix("totals: "))
         .map(|total| total.parse().expect("a total"))
         .collect();
-    // The last one is of the program's end.
-    assert_eq!(totals.len(), 4 * ROWS.len() + 1, "{said}");
-    for (row, totals) in ROWS.iter().zip(totals.chunks_exact(4)) {
-        let more = [totals[1] - totals[0], totals[3] - totals[2]];
-        tell(row, more.map(|more| more / (MORE - FEW) as f64));
+    let mut more = totals
+        .chunks_exact(2)
+        .map(|totals| (totals[1] - totals[0]) / (MORE - FEW) as f64);
+    for row in ROWS {
+        let all = Bench::all_of(folder, row).len();
+        tell(row, more.by_ref().take(all));
     }
+    // The last total is of the program's end.
+    assert!(
+        more.next().is_none() && totals.len() % 2 == 1,
+        "{} totals\n{said}",
+        totals.len()
+    );
 }
 
-/// Each row by the library, by a few rounds and by more, and by the second program.
+/// Each row by the library, by a few rounds and by more, by the second program, and so on.
 fn runs(folder: &Path) {
     for row in ROWS {
-        let answers = [LIBRARY, SECOND].map(|side| {
-            let mut bench = Bench::new(folder, row, side);
-            [FEW, MORE].map(|rounds| counted(&mut bench, rounds))
-        });
-        assert_same(row, answers.concat());
+        let all = Bench::all_of(folder, row).into_iter();
+        let answers: Vec<_> = all
+            .map(|mut bench| [FEW, MORE].map(|rounds| counted(&mut bench, rounds)))
+            .collect();
+        assert_same(row, answers[..2].concat());
     }
 }
 
@@ -256,8 +256,8 @@ fn assert_same(row: &Row, answers: impl IntoIterator<Item = u64>) {
     assert!(same, "{}: not the same answers", row.name);
 }
 
-/// What a round of the library took, and one of the second program.
-fn tell(row: &Row, taken: [f64; 2]) {
-    let [library, second] = taken.map(|taken| taken / row.parts() as f64);
-    println!("{}|{library:.1}|{second:.1}", row.name);
+/// What a round of each took.
+fn tell(row: &Row, taken: impl Iterator<Item = f64>) {
+    let figures = taken.map(|taken| format!("|{:.1}", taken / row.parts() as f64));
+    println!("{}{}", row.name, figures.collect::<String>());
 }

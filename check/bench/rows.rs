@@ -1,4 +1,4 @@
-//! What each row of the benchmark is about: a full log, to be replayed or judged, or requests of the finder.
+//! What each row of the benchmark is about: a full log, for one of the calls, or requests of the finder.
 
 use rivandoze_check::generate::{generate, Rng, Settings};
 use rivandoze_check::reference::edition::Edition;
@@ -17,10 +17,17 @@ pub enum Does {
     /// By a right transcript.
     Judge,
     Find,
-    #[cfg(with_dump)]
     Dump,
-    #[cfg(with_sign)]
     Sign,
+    /// Of the log's records.
+    Write,
+    Shrink,
+    /// By chunks of many records.
+    #[cfg(with_stream)]
+    Stream,
+    /// By chunks of one record.
+    #[cfg(with_stream)]
+    StreamEach,
 }
 
 pub struct Row {
@@ -52,14 +59,26 @@ pub const ROWS: &[Row] = &[
         mix(1, 20)
     }),
     row("the finder, a request", Does::Find, some_requests),
-    #[cfg(with_dump)]
     row("pins, changing bank, dumped", Does::Dump, || pins(10, 2)),
-    #[cfg(with_dump)]
     row("a mix over both banks, dumped", Does::Dump, || mix(2, 20)),
-    #[cfg(with_sign)]
     row("pins, changing bank, signed", Does::Sign, || pins(10, 2)),
-    #[cfg(with_sign)]
     row("a mix over both banks, signed", Does::Sign, || mix(2, 20)),
+    row("pins, changing bank, written", Does::Write, || pins(10, 2)),
+    row("a mix over both banks, written", Does::Write, || mix(2, 20)),
+    row("pins, a third as before, shrunk", Does::Shrink, idle_pins),
+    row("a mix over both banks, shrunk", Does::Shrink, || mix(2, 20)),
+    #[cfg(with_stream)]
+    row("pins, changing bank, streamed", Does::Stream, || {
+        pins(10, 2)
+    }),
+    #[cfg(with_stream)]
+    row("reads, changing bank, streamed", Does::Stream, || reads(2)),
+    #[cfg(with_stream)]
+    row("a mix over both banks, streamed", Does::Stream, || {
+        mix(2, 20)
+    }),
+    #[cfg(with_stream)]
+    row("a mix, a record a call", Does::StreamEach, || mix(2, 20)),
 ];
 
 const fn row(name: &'static str, does: Does, make: fn() -> Vec<u8>) -> Row {
@@ -86,6 +105,16 @@ fn edition(banks: u8) -> Edition {
 
 /// Encoders in quadrature, walking on and back, in each bank by turns.
 fn pins(encoders: u8, banks: u8) -> Vec<u8> {
+    walks(encoders, banks, &[1, 2])
+}
+
+/// The same of both banks, but a third of the pins stay as they were.
+fn idle_pins() -> Vec<u8> {
+    walks(10, 2, &[0, 1, 2])
+}
+
+/// By steps that change these pins.
+fn walks(encoders: u8, banks: u8, steps: &[u64]) -> Vec<u8> {
     let mut rng = Rng::new(1);
     let mut records = Vec::new();
     for bank in 0..banks {
@@ -99,7 +128,7 @@ fn pins(encoders: u8, banks: u8) -> Vec<u8> {
         let bank = records.len() % usize::from(banks);
         let channel = rng.below(encoders.into()) as usize;
         let pins = &mut pins[bank][channel];
-        *pins ^= rng.pick(&[1, 2]);
+        *pins ^= rng.pick(steps);
         records.push(Fields::pins(channel as u8, *pins).in_bank(bank as u8));
     }
     log_of(banks, &records)

@@ -109,106 +109,200 @@ static void take_lent(struct lent *lent, enum place place, size_t len) {
 
 static int kept(const struct lent *lent) { return memcmp(lent->copy, lent->area.start, whole(&lent->area)) == 0; }
 
-/* WITH_WRITE, WITH_SHRINK, WITH_SIGN and WITH_STREAM tell which of these calls the library has. They are declared here as well as in the
- * header, so that they must agree. */
-#ifdef WITH_WRITE
-uint64_t rvz_write(uint64_t edition, const uint8_t *notes, size_t notes_len, const uint8_t *records, size_t records_len, uint8_t *out, size_t out_len);
-#endif
-#ifdef WITH_SHRINK
-uint64_t rvz_shrink(const uint8_t *log, size_t log_len, uint8_t *out, size_t out_len);
-#endif
-#ifdef WITH_SIGN
-uint64_t rvz_sign(const uint8_t *log, size_t log_len, uint8_t *out, size_t out_len);
-#endif
-
+/* WITH_STREAM tells that the library has these calls. They are declared here as well as in the header, so that they must agree. */
 #ifdef WITH_STREAM
 uint64_t rvz_stream_start(uint64_t edition, uint8_t *state, size_t state_len);
 uint64_t rvz_stream_chunk(uint8_t *state, size_t state_len, const uint8_t *chunk, size_t chunk_len, uint8_t *out, size_t out_len);
 uint64_t rvz_stream_end(const uint8_t *state, size_t state_len);
 uint64_t rvz_stream_applied(const uint8_t *state, size_t state_len);
 
-enum ask { START, CHUNK, END, APPLIED, MOVE, SHORT_CHUNK, SHORT_END, SHORT_APPLIED };
+enum ask { START, CHUNK, END, APPLIED, MOVE, SHORT_CHUNK, SHORT_END, SHORT_APPLIED, AGAIN, OTHER, DAMAGED, NOISE, REPEATED, SET_APPLIED, SET_COUNT };
 enum { SIX = 6, NO_STATE = 19, UNSET = 0xC3 };
 
-/* The state of the stream, in a block of the heap of its own. */
-static struct { uint8_t *bytes; size_t len; } state;
+/* The states of two streams, each in a block of the heap of its own; the one that is asked; and whether a record of it was refused. */
+static struct state { uint8_t *bytes; size_t len; int refused; } states[2], *state = states;
 
-static void new_state(size_t len) {
-    free(state.bytes);
-    state.len = len;
-    state.bytes = malloc(len + (len == 0));
-    if (state.bytes == NULL) {
+static uint8_t *block(size_t len) {
+    uint8_t *bytes = malloc(len + (len == 0));
+    if (bytes == NULL) {
         stop("no memory");
     }
-    memset(state.bytes, UNSET, len);
+    return bytes;
+}
+
+static void new_state(size_t len) {
+    free(state->bytes);
+    state->bytes = block(len);
+    state->len = len;
+    state->refused = 0;
+    memset(state->bytes, UNSET, len);
 }
 
 static void move_state(void) {
-    uint8_t *old = state.bytes;
-    state.bytes = NULL;
-    new_state(state.len);
-    memcpy(state.bytes, old, state.len);
-    memset(old, UNSET, state.len);
+    uint8_t *old = state->bytes;
+    state->bytes = block(state->len);
+    memcpy(state->bytes, old, state->len);
+    memset(old, UNSET, state->len);
     free(old);
 }
 
 /* Whether the state is unset from here on: what lies behind the state proper, and all of it where there is none. */
 static int unset_from(size_t from) {
-    for (size_t i = from; i < state.len; i++) {
-        if (state.bytes[i] != UNSET) return 0;
+    for (size_t i = from; i < state->len; i++) {
+        if (state->bytes[i] != UNSET) return 0;
     }
     return 1;
 }
 
-static uint64_t ask(const uint64_t words[4], const struct area *log, uint8_t *out) {
-    size_t shorter = state.len < RVZ_STREAM_BYTES ? state.len : RVZ_STREAM_BYTES - 1;
-    size_t len = words[0] >= SHORT_CHUNK ? shorter : state.len;
+/* The answer to a read, with room for two readings, of these bytes, which may be a state or not. Clears `good` unless the end and the applied
+ * number agree with it, nothing is changed where they are none, and a state stays one. */
+static uint64_t ask_aside(uint8_t *bytes, size_t len, uint64_t *good) {
+    static const uint8_t a_read[16] = {2};
+    uint8_t out[16], *old = block(len);
+    memcpy(old, bytes, len);
+    memset(out, UNSET, sizeof out);
+    uint64_t end = rvz_stream_end(bytes, len), applied = rvz_stream_applied(bytes, len);
+    if (memcmp(old, bytes, len) != 0) *good = 0;
+    uint64_t chunk = rvz_stream_chunk(bytes, len, a_read, sizeof a_read, out, sizeof out);
+    size_t written = 8 * (size_t)(chunk >> 8);
+    if (((chunk & 0xFF) == NO_STATE) != (end == NO_STATE) || written > sizeof out) *good = 0;
+    for (size_t i = written; i < sizeof out; i++) {
+        if (out[i] != UNSET) *good = 0;
+    }
+    size_t proper = end == NO_STATE || len < RVZ_STREAM_BYTES ? 0 : RVZ_STREAM_BYTES;
+    if (memcmp(old + proper, bytes + proper, len - proper) != 0) *good = 0;
+    if (proper == 0 ? chunk != NO_STATE || applied != 0 : rvz_stream_end(bytes, len) == NO_STATE) *good = 0;
+    free(old);
+    return chunk;
+}
+
+static void damaged(const uint64_t words[4], uint64_t *good) {
+    uint8_t *copy = block(state->len);
+    memcpy(copy, state->bytes, state->len);
+    if (words[1] != 0) {
+        memset(copy, (int)(words[3] & 0xFF), state->len);
+    } else if (state->len != 0) {
+        copy[words[2] % (state->len < RVZ_STREAM_BYTES ? state->len : RVZ_STREAM_BYTES)] ^= (uint8_t)words[3];
+    }
+    ask_aside(copy, state->len, good);
+    free(copy);
+}
+
+static uint64_t noise(const uint64_t words[4], uint64_t *good) {
+    size_t len = words[3] > RVZ_STREAM_BYTES ? 0 : (size_t)(RVZ_STREAM_BYTES + words[2] - words[3]);
+    struct area area = {block(len), 0, len, 0};
+    fill(&area, words[1]);
+    uint64_t answer = ask_aside(area.start, len, good);
+    free(area.start);
+    return answer;
+}
+
+/* Where the state has the applied number, of 8 bytes, and the count of each encoder, of 4, least byte first. edits.h has these two functions as
+ * docs/STREAM.md says it; until there is one, nothing can be edited. */
+#ifdef WITH_EDITS
+#include "edits.h"
+#else
+static size_t applied_at(void) { return SIZE_MAX; }
+static size_t count_at(uint64_t bank, uint64_t encoder) { return (void)bank, (void)encoder, SIZE_MAX; }
+#endif
+
+static void edit(size_t at, uint64_t value, size_t len) {
+    if (at > state->len || len > state->len - at) {
+        stop("nowhere to edit");
+    }
+    for (size_t i = 0; i < len; i++) state->bytes[at + i] = (uint8_t)(value >> 8 * i);
+}
+
+/* The record bytes of a log from here, so many. */
+static const uint8_t *part(const struct area *log, uint64_t from, uint64_t len) {
+    if (from > log->len || len > log->len - from) {
+        stop("a chunk of no log");
+    }
+    return inside(log) + from;
+}
+
+static uint64_t ask(const uint64_t words[4], const struct area *log, uint8_t *out, uint64_t *good) {
+    size_t shorter = state->len < RVZ_STREAM_BYTES ? state->len : RVZ_STREAM_BYTES - 1;
+    size_t len = words[0] >= SHORT_CHUNK ? shorter : state->len;
     switch ((enum ask)words[0]) {
     case START:
         new_state((size_t)(RVZ_STREAM_BYTES + words[2] - words[3]));
-        return rvz_stream_start(words[1], state.bytes, state.len);
+        return rvz_stream_start(words[1], state->bytes, state->len);
+    case AGAIN:
+        return rvz_stream_start(words[1], state->bytes, state->len);
     case CHUNK:
     case SHORT_CHUNK:
-        if (words[1] > log->len || words[2] > log->len - words[1]) {
-            stop("a chunk of no log");
-        }
-        return rvz_stream_chunk(state.bytes, len, inside(log) + words[1], words[2], out, words[3]);
+        return rvz_stream_chunk(state->bytes, len, part(log, words[1], words[2]), words[2], out, words[3]);
     case END:
     case SHORT_END:
-        return rvz_stream_end(state.bytes, len);
+        return rvz_stream_end(state->bytes, len);
     case APPLIED:
     case SHORT_APPLIED:
-        return rvz_stream_applied(state.bytes, len);
+        return rvz_stream_applied(state->bytes, len);
     case MOVE:
         move_state();
+        return 0;
+    case OTHER:
+        state = state == states ? states + 1 : states;
+        return 0;
+    case DAMAGED:
+        damaged(words, good);
+        return 0;
+    case NOISE:
+        return noise(words, good);
+    case REPEATED: {
+        uint64_t answer = 0;
+        for (uint64_t i = 0; i < words[3]; i++) {
+            answer = rvz_stream_chunk(state->bytes, state->len, part(log, words[1], words[2]), words[2], out, 0);
+        }
+        return answer;
+    }
+    case SET_APPLIED:
+        edit(applied_at(), words[1], 8);
+        return 0;
+    case SET_COUNT:
+        edit(count_at(words[1], words[2]), words[3], 4);
         return 0;
     }
     stop("no such ask");
     return 0;
 }
 
+/* Whether this call may have changed the state, which a record that was refused before forbids. */
+static int may_change(enum ask asked, unsigned refused) {
+    if (asked == AGAIN) return refused == 0;
+    if (asked == OTHER || asked == REPEATED || asked == SET_APPLIED || asked == SET_COUNT) return 1;
+    return asked == CHUNK && refused != SIX && refused != NO_STATE && !state->refused;
+}
+
 /* Plays a script, as check/src/script.rs has it: how many calls that was. Clears `good` where a state was changed that may not be. */
 static uint64_t play(const struct area *log, const struct area *script, const struct area *out, uint64_t *good) {
-    uint8_t *at = inside(out), *old = malloc(ROOM);
+    uint8_t *at = inside(out), *old = block(ROOM);
     uint64_t number = 0;
+    state = states + 1;
+    new_state(0);
+    state = states;
+    new_state(0);
     for (size_t next = 0; next < script->len; next += 32, number++) {
         uint64_t words[4];
         memcpy(words, inside(script) + next, sizeof words);
-        size_t room = words[0] == CHUNK || words[0] == SHORT_CHUNK ? (size_t)words[3] : 0;
-        if (old == NULL || (number == 0) != (words[0] == START) || (size_t)(inside(out) + out->len - at) < room + 16) {
+        enum ask asked = (enum ask)words[0];
+        size_t room = asked == CHUNK || asked == SHORT_CHUNK ? (size_t)words[3] : 0, len = state->len;
+        if ((size_t)(inside(out) + out->len - at) < room + 16 || len > ROOM) {
             stop("no such script");
         }
-        size_t len = number == 0 ? 0 : state.len;
-        memcpy(old, state.bytes == NULL ? at : state.bytes, len);
-        uint64_t answer = ask(words, log, at + 8);
+        memcpy(old, state->bytes, len);
+        uint64_t answer = ask(words, log, at + 8, good);
         unsigned refused = (unsigned)(answer & 0xFF);
-        if (words[0] == START) {
+        if (asked == START) {
             if (!unset_from(refused == 0 ? RVZ_STREAM_BYTES : 0)) *good = 0;
-        } else {
-            int may = words[0] == CHUNK && refused != SIX && refused != NO_STATE;
-            if (!may && memcmp(old, state.bytes, len) != 0) *good = 0;
-            if (may && !unset_from(RVZ_STREAM_BYTES)) *good = 0;
+        } else if (!may_change(asked, refused)) {
+            if (memcmp(old, state->bytes, len) != 0) *good = 0;
+        } else if (!unset_from(RVZ_STREAM_BYTES)) {
+            *good = 0;
         }
+        if (asked == AGAIN && refused == 0) state->refused = 0;
+        if (asked == CHUNK && refused != SIX && refused != NO_STATE) state->refused = refused != 0;
         memcpy(at, &answer, sizeof answer);
         at += room + 16;
     }
@@ -218,7 +312,6 @@ static uint64_t play(const struct area *log, const struct area *script, const st
 #endif
 
 static uint64_t answer_to(enum call call, uint64_t edition, const struct area *log, const struct area *beside, const struct area *out) {
-    (void)edition;
     switch (call) {
     case REPLAY:
         return rvz_replay(inside(log), log->len, inside(out), out->len);
@@ -228,18 +321,12 @@ static uint64_t answer_to(enum call call, uint64_t edition, const struct area *l
         return rvz_dump(inside(log), log->len, inside(out), out->len);
     case DUMP_READ:
         return rvz_dump_read(inside(log), log->len, inside(out), out->len);
-#ifdef WITH_WRITE
     case WRITE:
         return rvz_write(edition, inside(beside), beside->len, inside(log), log->len, inside(out), out->len);
-#endif
-#ifdef WITH_SHRINK
     case SHRINK:
         return rvz_shrink(inside(log), log->len, inside(out), out->len);
-#endif
-#ifdef WITH_SIGN
     case SIGN:
         return rvz_sign(inside(log), log->len, inside(out), out->len);
-#endif
     default:
         break;
     }
@@ -285,7 +372,8 @@ int main(void) {
         }
     }
 #ifdef WITH_STREAM
-    free(state.bytes);
+    free(states[0].bytes);
+    free(states[1].bytes);
 #endif
     free(log.copy);
     free(beside.copy);

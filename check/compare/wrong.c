@@ -6,6 +6,8 @@
 #include <stdlib.h>
 #include <string.h>
 
+#include "rivandoze.h"
+
 uint64_t __real_rvz_replay(const uint8_t *log, size_t log_len, uint8_t *out, size_t out_len);
 uint64_t __wrap_rvz_replay(const uint8_t *log, size_t log_len, uint8_t *out, size_t out_len);
 uint64_t __real_rvz_judge(const uint8_t *log, size_t log_len, const uint8_t *transcript, size_t transcript_len);
@@ -58,11 +60,6 @@ uint64_t __wrap_rvz_judge(const uint8_t *log, size_t log_len, const uint8_t *tra
     return answer;
 }
 
-uint64_t __real_rvz_dump(const uint8_t *log, size_t log_len, uint8_t *out, size_t out_len);
-uint64_t __wrap_rvz_dump(const uint8_t *log, size_t log_len, uint8_t *out, size_t out_len);
-uint64_t __real_rvz_dump_read(const uint8_t *text, size_t text_len, uint8_t *out, size_t out_len);
-uint64_t __wrap_rvz_dump_read(const uint8_t *text, size_t text_len, uint8_t *out, size_t out_len);
-
 /* What WRONG says behind the name of the call. */
 static void touch(const char *call, const uint8_t *input, size_t input_len, uint8_t *out, size_t out_len) {
     const char *wrong = getenv("WRONG");
@@ -77,19 +74,21 @@ static void touch(const char *call, const uint8_t *input, size_t input_len, uint
     if (strcmp(wrong, "-writes-behind-output") == 0) change(out + out_len);
 }
 
-uint64_t __wrap_rvz_dump(const uint8_t *log, size_t log_len, uint8_t *out, size_t out_len) {
-    uint64_t answer = __real_rvz_dump(log, log_len, out, out_len);
-    touch("dump", log, log_len, out, out_len);
-    return answer;
-}
+/* A call of an input and an output. */
+#define WRAPPED(call, name)                                                                            \
+    uint64_t __real_##call(const uint8_t *input, size_t input_len, uint8_t *out, size_t out_len);      \
+    uint64_t __wrap_##call(const uint8_t *input, size_t input_len, uint8_t *out, size_t out_len);      \
+    uint64_t __wrap_##call(const uint8_t *input, size_t input_len, uint8_t *out, size_t out_len) {     \
+        uint64_t answer = __real_##call(input, input_len, out, out_len);                               \
+        touch(name, input, input_len, out, out_len);                                                   \
+        return answer;                                                                                 \
+    }
 
-uint64_t __wrap_rvz_dump_read(const uint8_t *text, size_t text_len, uint8_t *out, size_t out_len) {
-    uint64_t answer = __real_rvz_dump_read(text, text_len, out, out_len);
-    touch("dump-read", text, text_len, out, out_len);
-    return answer;
-}
+WRAPPED(rvz_dump, "dump")
+WRAPPED(rvz_dump_read, "dump-read")
+WRAPPED(rvz_shrink, "shrink")
+WRAPPED(rvz_sign, "sign")
 
-#ifdef WITH_WRITE
 uint64_t __real_rvz_write(uint64_t edition, const uint8_t *notes, size_t notes_len, const uint8_t *records, size_t records_len, uint8_t *out,
     size_t out_len);
 uint64_t __wrap_rvz_write(uint64_t edition, const uint8_t *notes, size_t notes_len, const uint8_t *records, size_t records_len, uint8_t *out,
@@ -102,38 +101,41 @@ uint64_t __wrap_rvz_write(uint64_t edition, const uint8_t *notes, size_t notes_l
     touch("write-notes", notes, notes_len, out, out_len);
     return answer;
 }
-#endif
-
-#ifdef WITH_SHRINK
-uint64_t __real_rvz_shrink(const uint8_t *log, size_t log_len, uint8_t *out, size_t out_len);
-uint64_t __wrap_rvz_shrink(const uint8_t *log, size_t log_len, uint8_t *out, size_t out_len);
-
-uint64_t __wrap_rvz_shrink(const uint8_t *log, size_t log_len, uint8_t *out, size_t out_len) {
-    uint64_t answer = __real_rvz_shrink(log, log_len, out, out_len);
-    touch("shrink", log, log_len, out, out_len);
-    return answer;
-}
-#endif
-
-#ifdef WITH_SIGN
-uint64_t __real_rvz_sign(const uint8_t *log, size_t log_len, uint8_t *out, size_t out_len);
-uint64_t __wrap_rvz_sign(const uint8_t *log, size_t log_len, uint8_t *out, size_t out_len);
-
-uint64_t __wrap_rvz_sign(const uint8_t *log, size_t log_len, uint8_t *out, size_t out_len) {
-    uint64_t answer = __real_rvz_sign(log, log_len, out, out_len);
-    touch("sign", log, log_len, out, out_len);
-    return answer;
-}
-#endif
 
 #ifdef WITH_STREAM
 uint64_t __real_rvz_stream_chunk(uint8_t *state, size_t state_len, const uint8_t *chunk, size_t chunk_len, uint8_t *out, size_t out_len);
 uint64_t __wrap_rvz_stream_chunk(uint8_t *state, size_t state_len, const uint8_t *chunk, size_t chunk_len, uint8_t *out, size_t out_len);
+uint64_t __real_rvz_stream_end(const uint8_t *state, size_t state_len);
+uint64_t __wrap_rvz_stream_end(const uint8_t *state, size_t state_len);
+uint64_t __real_rvz_stream_applied(const uint8_t *state, size_t state_len);
+uint64_t __wrap_rvz_stream_applied(const uint8_t *state, size_t state_len);
+
+/* The first byte of a state, or of what is none, where WRONG says this. */
+static void spoil(const char *when, int now, const uint8_t *state, size_t state_len) {
+    if (now && state_len > 0 && strcmp(getenv("WRONG"), when) == 0) change((uint8_t *)state);
+}
 
 /* A chunk lies between others, so that only what is written shows. */
 uint64_t __wrap_rvz_stream_chunk(uint8_t *state, size_t state_len, const uint8_t *chunk, size_t chunk_len, uint8_t *out, size_t out_len) {
+    uint64_t end = __real_rvz_stream_end(state, state_len);
     uint64_t answer = __real_rvz_stream_chunk(state, state_len, chunk, chunk_len, out, out_len);
     touch("stream", chunk, chunk_len, out, out_len);
+    spoil("stream-spoils-state-on-6", (answer & 0xFF) == 6, state, state_len);
+    spoil("stream-spoils-state-on-19", (answer & 0xFF) == 19, state, state_len);
+    spoil("stream-spoils-state-behind-a-refusal", end != 0 && end != 5 && end != 19, state, state_len);
+    if (state_len > RVZ_STREAM_BYTES) spoil("stream-writes-behind-state", 1, state + RVZ_STREAM_BYTES, 1);
+    return answer;
+}
+
+uint64_t __wrap_rvz_stream_end(const uint8_t *state, size_t state_len) {
+    uint64_t answer = __real_rvz_stream_end(state, state_len);
+    spoil("stream-spoils-state-at-the-end", 1, state, state_len);
+    return answer;
+}
+
+uint64_t __wrap_rvz_stream_applied(const uint8_t *state, size_t state_len) {
+    uint64_t answer = __real_rvz_stream_applied(state, state_len);
+    spoil("stream-spoils-state-when-counted", 1, state, state_len);
     return answer;
 }
 #endif

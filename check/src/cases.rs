@@ -27,6 +27,8 @@ pub enum Size {
     Short,
     /// As the gate wants it.
     Full,
+    /// So many hundredths of that.
+    Percent(u64),
 }
 
 impl Size {
@@ -34,6 +36,7 @@ impl Size {
         match self {
             Size::Short => short,
             Size::Full => full,
+            Size::Percent(percent) => full.saturating_mul(percent) / 100,
         }
     }
 }
@@ -58,7 +61,7 @@ impl Family {
 }
 
 macro_rules! family {
-    ($name:literal, $by_chance:literal, $make:expr) => {
+    ($name:expr, $by_chance:literal, $make:expr) => {
         Family {
             name: $name,
             by_chance: $by_chance,
@@ -132,65 +135,65 @@ pub const WRITE_FAMILIES: &[Family] = &[
     family!("written with every bit and bank", false, written::bytes),
 ];
 
+/// Those of a call that walks through a log, under its own word.
+macro_rules! walked {
+    ($word:literal, $call:ident) => {
+        &[
+            family!(concat!($word, " walks"), true, |rng, size| walked::$call
+                .walks(rng, size)),
+            family!(concat!($word, " full logs"), true, |rng, size| {
+                walked::$call.full_logs(rng, size)
+            }),
+            family!(concat!($word, " generated logs"), true, |rng, size| {
+                walked::$call.generated(rng, size)
+            }),
+            family!(
+                concat!($word, " logs with each fault"),
+                true,
+                |rng, size| { walked::$call.faults(rng, size) }
+            ),
+            family!(concat!($word, " damaged logs"), true, |rng, size| {
+                walked::$call.damaged(rng, size)
+            }),
+            family!(concat!($word, " logs in every room"), false, |rng, size| {
+                walked::$call.rooms(rng, size)
+            }),
+            family!(
+                concat!($word, " pins with each record between"),
+                false,
+                |rng, size| walked::$call.between(rng, size)
+            ),
+            family!(concat!($word, " every six pins"), false, |rng, size| {
+                walked::$call.every_walk(rng, size)
+            }),
+        ]
+    };
+}
+
 /// For shrinking.
-pub const SHRINK_FAMILIES: &[Family] = &[
-    family!("shrunk walks", true, |rng, size| walked::SHRINK
-        .walks(rng, size)),
-    family!("shrunk full logs", true, |rng, size| walked::SHRINK
-        .full_logs(rng, size)),
-    family!("shrunk generated logs", true, |rng, size| walked::SHRINK
-        .generated(rng, size)),
-    family!("shrunk logs with each fault", true, |rng, size| {
-        walked::SHRINK.faults(rng, size)
-    }),
-    family!("shrunk damaged logs", true, |rng, size| walked::SHRINK
-        .damaged(rng, size)),
-    family!("shrunk logs in every room", false, |rng, size| {
-        walked::SHRINK.rooms(rng, size)
-    }),
-    family!(
-        "shrunk pins with each record between",
-        false,
-        |rng, size| walked::SHRINK.between(rng, size)
-    ),
-    family!("shrunk every six pins", false, |rng, size| walked::SHRINK
-        .every_walk(rng, size)),
-];
+pub const SHRINK_FAMILIES: &[Family] = walked!("shrunk", SHRINK);
 
 /// For the sign.
-pub const SIGN_FAMILIES: &[Family] = &[
-    family!("signs of walks", true, |rng, size| walked::SIGN
-        .walks(rng, size)),
-    family!("signs of full logs", true, |rng, size| walked::SIGN
-        .full_logs(rng, size)),
-    family!("signs of generated logs", true, |rng, size| walked::SIGN
-        .generated(rng, size)),
-    family!("signs of logs with each fault", true, |rng, size| {
-        walked::SIGN.faults(rng, size)
-    }),
-    family!("signs of damaged logs", true, |rng, size| walked::SIGN
-        .damaged(rng, size)),
-    family!("signs of logs in every room", false, |rng, size| {
-        walked::SIGN.rooms(rng, size)
-    }),
-    family!(
-        "signs of pins with each record between",
-        false,
-        |rng, size| walked::SIGN.between(rng, size)
-    ),
-    family!("signs of every six pins", false, |rng, size| walked::SIGN
-        .every_walk(rng, size)),
-];
+pub const SIGN_FAMILIES: &[Family] = walked!("signs of", SIGN);
 
 /// For the stream.
 pub const STREAM_FAMILIES: &[Family] = &[
     family!("streams by chance", true, streamed::by_chance),
     family!("streams with each fault", true, streamed::faults),
+    family!("two streams side by side", true, streamed::side_by_side),
+    family!("damaged states", true, streamed::damaged),
     family!("long streams", true, streamed::long),
     family!("streams cut everywhere", false, streamed::every_cut),
     family!("streams of every edition", false, streamed::starts),
     family!("streams in every room", false, streamed::rooms),
 ];
+
+/// For states that no log comes to, whose bytes are edited.
+pub const FAR_FAMILIES: &[Family] = &[family!("edited states", true, streamed::far)];
+
+/// For a state that only a long run comes to.
+pub const COUNTED_FAMILIES: &[Family] =
+    &[family!("a run of 2^31 steps", false, streamed::counted_far)];
 
 /// A log lent with an output of the given length, somewhere.
 fn lent(log: Vec<u8>, out_len: usize, rng: &mut Rng) -> Request {

@@ -10,6 +10,7 @@
 use crate::packed;
 use crate::script::{self, Right};
 use std::io::{self, Read, Write};
+use std::process::ExitCode;
 
 /// The numbers of a request.
 pub const HEADER_LEN: usize = 56;
@@ -254,6 +255,25 @@ impl Answer {
             kept: number_at(&header, 1) == 1,
             area,
         })
+    }
+}
+
+/// What a driver does: answers every request, and tells on standard error, by its name, where it cannot.
+pub fn answer_all(name: &str, answer: impl Fn(&Request) -> Answer) -> ExitCode {
+    let all = || -> io::Result<()> {
+        let mut stdin = io::stdin().lock();
+        let mut stdout = io::BufWriter::new(io::stdout().lock());
+        while let Some(request) = Request::read_from(&mut stdin)? {
+            answer(&request).write_to(&mut stdout)?;
+        }
+        Ok(())
+    };
+    match all() {
+        Ok(()) => ExitCode::SUCCESS,
+        Err(error) => {
+            eprintln!("{name}: {error}");
+            ExitCode::from(2)
+        }
     }
 }
 

@@ -15,7 +15,7 @@ use rivandoze_check::reference::{
 };
 use rivandoze_check::text::{from_text, to_text};
 use std::fmt::Write as _;
-use std::fs::File;
+use std::fs::{self, File};
 use std::io::{self, Read, Write as _};
 use std::process::ExitCode;
 
@@ -40,6 +40,8 @@ rvz-check from-text             the way back
 rvz-check generate SEED [RECORDS TICKS PERCENT]
                                 a log made from a seed, on standard output, with the most
                                 records, the longest wait and the share of refused logs
+rvz-check generate-many FOLDER NUMBER SEED
+                                so many logs, from this seed on, as FOLDER/000000.log and so on
 ";
 
 fn main() -> ExitCode {
@@ -82,10 +84,14 @@ fn answer(words: &[&str]) -> Result<Vec<u8>, String> {
         }
         ["write", edition] => return written(number(edition)?, &[]),
         ["write", edition, file] => {
-            let notes = std::fs::read(file).map_err(|error| format!("{file}: {error}"))?;
+            let notes = fs::read(file).map_err(|error| format!("{file}: {error}"))?;
             return written(number(edition)?, &notes);
         }
-        ["shrink"] => return shrink(&input(LOG_MAX + 1)?).map_err(refused),
+        ["shrink"] => {
+            let log = input(LOG_MAX + 1)?;
+            let smaller = shrink(&log).map_err(refused)?;
+            return Ok(smaller.to_vec());
+        }
         ["sign"] => {
             let (refusal, applied, stretches) = sign(&input(LOG_MAX + 1)?, usize::MAX);
             let lines: String = stretches.iter().map(stretch_line).collect();
@@ -112,9 +118,21 @@ fn answer(words: &[&str]) -> Result<Vec<u8>, String> {
             };
             return Ok(generate(number(seed)?, &settings));
         }
+        ["generate-many", folder, logs, seed] => many(folder, number(logs)?, number(seed)?)?,
         _ => return Err(USAGE.into()),
     };
     Ok(text.into_bytes())
+}
+
+/// Makes the folder where there is none, and tells which seeds its logs are from.
+fn many(folder: &str, logs: u64, seed: u64) -> Result<String, String> {
+    let told = |error: io::Error| format!("{folder}: {error}");
+    fs::create_dir_all(folder).map_err(told)?;
+    for index in 0..logs {
+        let log = generate(seed.wrapping_add(index), &Settings::default());
+        fs::write(format!("{folder}/{index:06}.log"), log).map_err(told)?;
+    }
+    Ok(format!("{logs} logs from seed {seed} on\n"))
 }
 
 /// Standard input, up to so many bytes.
@@ -175,10 +193,12 @@ fn verdict(answer: Result<Verdict, Refusal>) -> String {
 }
 
 fn written(edition: u64, notes: &[u8]) -> Result<Vec<u8>, String> {
-    write(edition, notes, &input(usize::MAX)?).map_err(|unwritten| match unwritten {
+    let records = input(usize::MAX)?;
+    let log = write(edition, notes, &records).map_err(|unwritten| match unwritten {
         Unwritten::By(refusal) => refused(refusal),
         Unwritten::Record(refusal, index) => format!("refused {refusal} record {index}"),
-    })
+    })?;
+    Ok(log.to_vec())
 }
 
 fn stretch_line(stretch: &Stretch) -> String {

@@ -1,6 +1,7 @@
 //! The answers as single numbers, the way they cross the C boundary: refusal in the low byte, the
 //! rest 0 when refused but for the records applied.
 
+use crate::reference::log::Made;
 use crate::reference::refusal::{Refusal, NONE, OUTPUT_TOO_SHORT};
 use crate::reference::sign::STRETCH_LEN;
 use crate::reference::writer::Unwritten;
@@ -41,7 +42,7 @@ pub fn dump_read(text: &[u8], out: &mut [u8]) -> u64 {
 
 pub fn write(edition: u64, notes: &[u8], records: &[u8], out: &mut [u8]) -> u64 {
     match reference::write(edition, notes, records) {
-        Ok(log) => laid(&log, log.len(), out),
+        Ok(log) => made(&log, out),
         Err(Unwritten::By(refusal)) => refusal.into(),
         Err(Unwritten::Record(refusal, index)) => u64::from(refusal) | index << 8,
     }
@@ -49,7 +50,7 @@ pub fn write(edition: u64, notes: &[u8], records: &[u8], out: &mut [u8]) -> u64 
 
 pub fn shrink(log: &[u8], out: &mut [u8]) -> u64 {
     match reference::shrink(log) {
-        Ok(smaller) => laid(&smaller, smaller.len(), out),
+        Ok(smaller) => made(&smaller, out),
         Err(refusal) => refusal.into(),
     }
 }
@@ -64,9 +65,17 @@ pub fn sign(log: &[u8], out: &mut [u8]) -> u64 {
 
 /// So many, where their bytes fit.
 fn laid(bytes: &[u8], number: usize, out: &mut [u8]) -> u64 {
-    match out.get_mut(..bytes.len()) {
+    fitting(bytes.len(), number, out, |room| room.copy_from_slice(bytes))
+}
+
+fn made(log: &Made<'_>, out: &mut [u8]) -> u64 {
+    fitting(log.length(), log.length(), out, |room| log.lay(room))
+}
+
+fn fitting(len: usize, number: usize, out: &mut [u8], fill: impl FnOnce(&mut [u8])) -> u64 {
+    match out.get_mut(..len) {
         Some(room) => {
-            room.copy_from_slice(bytes);
+            fill(room);
             u64::from(NONE) | (number as u64) << 8
         }
         None => OUTPUT_TOO_SHORT.into(),

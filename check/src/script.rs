@@ -4,7 +4,7 @@
 //! many bytes that are lent to it as its output, and 8 that nobody may touch. The records stand in the log. The
 //! state of a stream has as many bytes as the library says; a script says how many more or fewer are lent.
 
-use crate::reference::refusal::{Refusal, NO_STATE, OUTPUT_TOO_SHORT};
+use crate::reference::refusal::{Refusal, NONE, NO_STATE, OUTPUT_TOO_SHORT};
 use crate::reference::Stream;
 
 #[derive(Debug, Clone, Copy, PartialEq, Eq)]
@@ -33,6 +33,42 @@ pub enum Ask {
     },
     ShortEnd,
     ShortApplied,
+    /// A start in the bytes of the state that is there.
+    Again {
+        edition: u64,
+    },
+    /// From now on the other of two states is asked; at first it has no bytes.
+    Other,
+    /// A copy of the state with one byte changed, or with all bytes the same, is asked and thrown away. Whether that
+    /// still is a state, only the library knows; but all of its calls must say the same of it, and change nothing
+    /// if it is none. The answer is 0.
+    Damaged {
+        all: u64,
+        at: u64,
+        by: u64,
+    },
+    /// Any bytes, so many more or fewer than a state has, are asked for a chunk, the end and the applied number.
+    Noise {
+        seed: u64,
+        more: u64,
+        fewer: u64,
+    },
+    /// The same chunk so many times, without room. The answer is the last one.
+    Repeated {
+        from: u64,
+        len: u64,
+        times: u64,
+    },
+    /// The bytes of the state are edited, so that it has applied so many records.
+    SetApplied {
+        applied: u64,
+    },
+    /// So that an encoder has this count.
+    SetCount {
+        bank: u64,
+        encoder: u64,
+        count: u64,
+    },
 }
 
 pub const ASK_LEN: usize = 32;
@@ -54,6 +90,17 @@ impl Ask {
             Ask::ShortChunk { from, len, room } => [5, from, len, room],
             Ask::ShortEnd => [6, 0, 0, 0],
             Ask::ShortApplied => [7, 0, 0, 0],
+            Ask::Again { edition } => [8, edition, 0, 0],
+            Ask::Other => [9, 0, 0, 0],
+            Ask::Damaged { all, at, by } => [10, all, at, by],
+            Ask::Noise { seed, more, fewer } => [11, seed, more, fewer],
+            Ask::Repeated { from, len, times } => [12, from, len, times],
+            Ask::SetApplied { applied } => [13, applied, 0, 0],
+            Ask::SetCount {
+                bank,
+                encoder,
+                count,
+            } => [14, bank, encoder, count],
         };
         let mut bytes = [0; ASK_LEN];
         for (place, number) in bytes.chunks_exact_mut(8).zip(numbers) {
@@ -86,7 +133,30 @@ impl Ask {
                 room: c,
             },
             6 => Ask::ShortEnd,
-            _ => Ask::ShortApplied,
+            7 => Ask::ShortApplied,
+            8 => Ask::Again { edition: a },
+            9 => Ask::Other,
+            10 => Ask::Damaged {
+                all: a,
+                at: b,
+                by: c,
+            },
+            11 => Ask::Noise {
+                seed: a,
+                more: b,
+                fewer: c,
+            },
+            12 => Ask::Repeated {
+                from: a,
+                len: b,
+                times: c,
+            },
+            13 => Ask::SetApplied { applied: a },
+            _ => Ask::SetCount {
+                bank: a,
+                encoder: b,
+                count: c,
+            },
         }
     }
 
@@ -114,8 +184,19 @@ pub trait Streams {
     fn end(&mut self) -> Refusal;
     fn applied(&mut self) -> u64;
 
+    fn again(&mut self, edition: u64) -> Refusal;
+    fn other(&mut self);
+
+    fn set_applied(&mut self, applied: u64);
+    fn set_count(&mut self, bank: usize, encoder: usize, count: u32);
+
     /// The state lies elsewhere from now on.
     fn moved(&mut self) {}
+
+    /// The answer for bytes that are no state.
+    fn noise(&mut self) -> Refusal {
+        NO_STATE
+    }
 
     /// The answer to a call whose state is too short.
     fn short_chunk(&mut self, _chunk: &[u8], _out: &mut [u8]) -> (Refusal, u64) {
@@ -133,38 +214,64 @@ pub trait Streams {
 
 /// By the reference. Without a start there is no state.
 #[derive(Default)]
-pub struct Right(Option<Stream>);
+pub struct Right {
+    /// The one that is asked, and the other.
+    here: Lent,
+    there: Lent,
+}
+
+/// The bytes for a state: whether they are enough, and what they hold.
+#[derive(Default)]
+struct Lent {
+    enough: bool,
+    stream: Option<Stream>,
+}
 
 impl Streams for Right {
     fn start(&mut self, edition: u64, short: bool) -> Refusal {
-        let started = Stream::start(edition).and_then(|stream| match short {
-            true => Err(OUTPUT_TOO_SHORT),
-            false => Ok(stream),
-        });
-        match started {
+        self.here = Lent {
+            enough: !short,
+            stream: None,
+        };
+        self.again(edition)
+    }
+
+    fn again(&mut self, edition: u64) -> Refusal {
+        match Stream::start(edition) {
+            Ok(_) if !self.here.enough => OUTPUT_TOO_SHORT,
             Ok(stream) => {
-                self.0 = Some(stream);
-                0
+                self.here.stream = Some(stream);
+                NONE
             }
-            Err(refusal) => {
-                self.0 = None;
-                refusal
-            }
+            Err(refusal) => refusal,
         }
     }
 
+    fn other(&mut self) {
+        std::mem::swap(&mut self.here, &mut self.there);
+    }
+
     fn chunk(&mut self, chunk: &[u8], out: &mut [u8]) -> (Refusal, u64) {
-        self.0
-            .as_mut()
-            .map_or((NO_STATE, 0), |stream| stream.chunk(chunk, out))
+        let stream = self.here.stream.as_mut();
+        stream.map_or((NO_STATE, 0), |stream| stream.chunk(chunk, out))
     }
 
     fn end(&mut self) -> Refusal {
-        self.0.as_ref().map_or(NO_STATE, Stream::end)
+        self.here.stream.as_ref().map_or(NO_STATE, Stream::end)
     }
 
     fn applied(&mut self) -> u64 {
-        self.0.as_ref().map_or(0, Stream::applied)
+        self.here.stream.as_ref().map_or(0, Stream::applied)
+    }
+
+    fn set_applied(&mut self, applied: u64) {
+        let stream = self.here.stream.as_mut().expect("a state");
+        stream.set_applied(applied);
+    }
+
+    fn set_count(&mut self, bank: usize, encoder: usize, count: u32) {
+        let stream = self.here.stream.as_mut().expect("a state");
+        stream.set_count(bank, encoder, count);
     }
 }
 
@@ -192,6 +299,28 @@ pub fn run(stream: &mut impl Streams, log: &[u8], script: &[u8], out: &mut [u8])
             Ask::ShortChunk { from, len, .. } => both(stream.short_chunk(bytes(from, len), room)),
             Ask::ShortEnd => stream.short_end().into(),
             Ask::ShortApplied => stream.short_applied(),
+            Ask::Again { edition } => stream.again(edition).into(),
+            Ask::Other => {
+                stream.other();
+                0
+            }
+            Ask::Damaged { .. } => 0,
+            Ask::Noise { .. } => stream.noise().into(),
+            Ask::Repeated { from, len, times } => {
+                (0..times).fold(0, |_, _| both(stream.chunk(bytes(from, len), &mut [])))
+            }
+            Ask::SetApplied { applied } => {
+                stream.set_applied(applied);
+                0
+            }
+            Ask::SetCount {
+                bank,
+                encoder,
+                count,
+            } => {
+                stream.set_count(bank as usize, encoder as usize, count as u32);
+                0
+            }
         };
         word.copy_from_slice(&answered.to_le_bytes());
         rest = &mut behind[GUARD..];

@@ -2,8 +2,8 @@
 //! output and of what lies around it.
 
 use rivandoze_check::cases::{
-    Family, Requests, Size, DUMP_FAMILIES, FAMILIES, SHRINK_FAMILIES, SIGN_FAMILIES,
-    STREAM_FAMILIES, WRITE_FAMILIES,
+    Family, Requests, Size, COUNTED_FAMILIES, DUMP_FAMILIES, FAMILIES, FAR_FAMILIES,
+    SHRINK_FAMILIES, SIGN_FAMILIES, STREAM_FAMILIES, WRITE_FAMILIES,
 };
 use rivandoze_check::exchange::{Answer, Call, Place, Request};
 use rivandoze_check::reference::log::{records, READING_LEN};
@@ -26,19 +26,24 @@ compare rerun CALL FILE OUT PATTERN PLACE EDITION DRIVER..
                                            one log, with what was lent to it; what was lent beside it
                                            is in a file of the same name that ends in .beside
 Each of these, up to seconds, also as dump-full, dump-short and so on: the dump and its reader; and as write-full,
-shrink-full, sign-full and stream-full and so on: these calls.
-A log that is answered otherwise than by the reference is written to DIR.
+shrink-full, sign-full and stream-full and so on: these calls. far-full and so on edit the bytes of a stream's state;
+counted-full has a stream count to 2^31, which takes some twenty seconds.
+A log that is answered otherwise than by the reference is written to DIR. CASES in the environment is how many hundredths
+of the logs by chance `full` has.
 ";
 
 /// What a mode begins with, and the families that it is about.
-const GROUPS: [(&str, &[Family]); 5] = [
+const GROUPS: [(&str, &[Family]); 7] = [
     ("dump-", DUMP_FAMILIES),
     ("write-", WRITE_FAMILIES),
     ("shrink-", SHRINK_FAMILIES),
     ("sign-", SIGN_FAMILIES),
     ("stream-", STREAM_FAMILIES),
+    ("far-", FAR_FAMILIES),
+    ("counted-", COUNTED_FAMILIES),
 ];
 
+const CASES: &str = "CASES";
 /// How many requests may be under way.
 const AHEAD: usize = 64;
 /// Every which log of a family is one of the few.
@@ -78,9 +83,17 @@ fn run(words: &[String]) -> Result<bool, String> {
 
 fn full(families: &[Family], words: &[String]) -> Result<bool, String> {
     let against = Against::from_words(words)?;
+    let percent = match std::env::var(CASES) {
+        Ok(percent) => number(&percent)?,
+        Err(_) => 100,
+    };
     let mut good = true;
     for family in families {
-        good &= against.compare(family.name, family.requests(against.seed, Size::Full))?;
+        let size = match family.by_chance {
+            true => Size::Percent(percent),
+            false => Size::Full,
+        };
+        good &= against.compare(family.name, family.requests(against.seed, size))?;
     }
     Ok(good)
 }

@@ -257,7 +257,7 @@ pub fn each_encoder(mut rng: Rng, size: Size) -> Requests {
         .chain(pairs)
         .collect();
     let editions = match size {
-        Size::Full => EDITIONS.to_vec(),
+        Size::Full | Size::Percent(_) => EDITIONS.to_vec(),
         Size::Short => vec![Edition::Two, Edition::Four],
     };
     let all = editions

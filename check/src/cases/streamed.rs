@@ -48,6 +48,10 @@ impl<'a> Cutting<'a> {
         }
     }
 
+    fn left(&self) -> bool {
+        self.at < self.records.len()
+    }
+
     /// What the readings take that this chunk finishes.
     fn needed(&self, len: usize) -> usize {
         let (first, last) = (self.at / RECORD_LEN, (self.at + len) / RECORD_LEN);
@@ -71,7 +75,7 @@ impl<'a> Cutting<'a> {
         self.at += len;
     }
 
-    /// Once or twice with too little room, if it takes any; then it is to come again.
+    /// With too little room, if it takes any; then it is to come again.
     fn short(&mut self, len: usize, rng: &mut Rng) {
         let len = len.min(self.records.len() - self.at);
         let needed = self.needed(len);
@@ -81,15 +85,70 @@ impl<'a> Cutting<'a> {
         }
     }
 
+    /// The next chunk, of a style, now and then with too little room first; behind it at times another call.
+    fn step(&mut self, style: u64, rng: &mut Rng) {
+        let len = match style {
+            0 => 1 + rng.below(3),
+            1 => rng.below(41),
+            2 => 16 * rng.below(5),
+            3 => rng.below(400),
+            _ => rng.pick(&[15, 16, 17, 31, 33, 48]),
+        } as usize;
+        if rng.chance(12) {
+            self.short(len, rng);
+            if rng.chance(30) {
+                self.short(len, rng);
+            }
+        }
+        let spare = rng.pick(&[0, 0, 0, 1, 7, 8, 24]);
+        self.chunk(len, spare);
+        self.asks.extend(match rng.below(40) {
+            0 | 1 => Some(Ask::End),
+            2 | 3 => Some(Ask::Applied),
+            4 | 5 => Some(Ask::Move),
+            6 => Some(Ask::ShortEnd),
+            7 => Some(Ask::ShortApplied),
+            8 => Some(Ask::ShortChunk {
+                from: 0,
+                len: self.records.len().min(40) as u64,
+                room: 24,
+            }),
+            9 => Some(some_damage(rng)),
+            10 => Some(some_noise(rng)),
+            11 => Some(Ask::Again {
+                edition: rng.pick(&[0, 5, 65_537, 1 << 32 | 1]),
+            }),
+            _ => None,
+        });
+    }
+
     fn end(mut self) -> Vec<Ask> {
         self.asks.extend([Ask::End, Ask::Applied]);
         self.asks
     }
 }
 
+fn some_damage(rng: &mut Rng) -> Ask {
+    Ask::Damaged {
+        all: u64::from(rng.chance(10)),
+        at: rng.draw(),
+        by: rng.pick(&[1, 2, 3, 4, 8, 16, 32, 64, 128, 255]),
+    }
+}
+
+fn some_noise(rng: &mut Rng) -> Ask {
+    Ask::Noise {
+        seed: rng.draw(),
+        more: rng.pick(&[0, 0, 0, 1, 16, 100]),
+        fewer: 0,
+    }
+}
+
+const STYLES: u64 = 5;
+
 /// Cuts of one style, with other calls now and then, and more behind the end.
 fn cut_by_chance(edition: u64, records: &[u8], rng: &mut Rng) -> Vec<Ask> {
-    let style = rng.below(5);
+    let style = rng.below(STYLES);
     let mut cutting = Cutting::new(edition, records);
     if rng.chance(20) {
         cutting.asks[0] = Ask::Start {
@@ -98,35 +157,15 @@ fn cut_by_chance(edition: u64, records: &[u8], rng: &mut Rng) -> Vec<Ask> {
             fewer: 0,
         };
     }
-    while cutting.at < records.len() {
-        let len = match style {
-            0 => 1 + rng.below(3),
-            1 => rng.below(41),
-            2 => 16 * rng.below(5),
-            3 => rng.below(400),
-            _ => rng.pick(&[15, 16, 17, 31, 33, 48]),
-        };
-        if rng.chance(12) {
-            cutting.short(len as usize, rng);
-        }
-        let spare = rng.pick(&[0, 0, 0, 1, 7, 8, 24]);
-        cutting.chunk(len as usize, spare);
-        match rng.below(30) {
-            0 | 1 => cutting.asks.push(Ask::End),
-            2 | 3 => cutting.asks.push(Ask::Applied),
-            4 | 5 => cutting.asks.push(Ask::Move),
-            6 => cutting.asks.push(Ask::ShortEnd),
-            7 => cutting.asks.push(Ask::ShortApplied),
-            8 => cutting.asks.push(Ask::ShortChunk {
-                from: 0,
-                len: records.len().min(40) as u64,
-                room: 24,
-            }),
-            _ => {}
-        }
+    while cutting.left() {
+        cutting.step(style, rng);
     }
     let mut asks = cutting.end();
     if rng.chance(30) {
+        if rng.chance(50) {
+            let edition = rng.pick(&EDITIONS).number().into();
+            asks.push(Ask::Again { edition });
+        }
         // The same from the start, or what is left of it, behind the end.
         let len = rng.below(records.len() as u64 + 1);
         let room = len / 2 + 8;
@@ -134,6 +173,97 @@ fn cut_by_chance(edition: u64, records: &[u8], rng: &mut Rng) -> Vec<Ask> {
         asks.extend([Ask::End, Ask::Applied]);
     }
     asks
+}
+
+/// Two streams by turns, of any two editions.
+pub fn side_by_side(mut rng: Rng, size: Size) -> Requests {
+    Box::new((0..size.of(400, 4_000)).map(move |_| {
+        let logs = [short_log(&mut rng), short_log(&mut rng)].map(|log| parts(&log));
+        let both = logs.clone().map(|(_, records)| records);
+        let second_from = both[0].len() as u64;
+        let mut two = [0, 1].map(|at| {
+            let (edition, records) = &logs[at];
+            Cutting::new(edition.number().into(), records)
+        });
+        let (mut asks, mut here) = (Vec::new(), 0);
+        let mut take = |at: usize, cutting: &mut Cutting<'_>| {
+            if at != here {
+                asks.push(Ask::Other);
+                here = at;
+            }
+            let from = second_from * at as u64;
+            asks.extend(cutting.asks.drain(..).map(|ask| behind(ask, from)));
+        };
+        let style = rng.below(STYLES);
+        // Either may begin late, so that its state has no bytes yet while the other is asked.
+        while two.iter().any(Cutting::left) {
+            let at = rng.below(2) as usize;
+            if two[at].left() {
+                two[at].step(style, &mut rng);
+            }
+            take(at, &mut two[at]);
+        }
+        for (at, cutting) in two.iter_mut().enumerate() {
+            cutting.asks.extend([Ask::End, Ask::Applied]);
+            take(at, cutting);
+        }
+        streamed(both.concat(), &asks, &mut rng)
+    }))
+}
+
+/// The same ask of records that stand so far behind.
+fn behind(ask: Ask, more: u64) -> Ask {
+    match ask {
+        Ask::Chunk { from, len, room } => Ask::Chunk {
+            from: from + more,
+            len,
+            room,
+        },
+        Ask::ShortChunk { from, len, room } => Ask::ShortChunk {
+            from: from + more,
+            len,
+            room,
+        },
+        ask => ask,
+    }
+}
+
+/// States of which each byte is changed in turn, and other bytes of every length in their place.
+pub fn damaged(mut rng: Rng, size: Size) -> Requests {
+    let times = size.of(8, 160);
+    Box::new((0..times).map(move |index| {
+        let (edition, records) = parts(&short_log(&mut rng));
+        let mut cutting = Cutting::new(edition.number().into(), &records);
+        let until = rng.below(records.len() as u64 + 1) as usize;
+        while cutting.at < until {
+            cutting.step(3, &mut rng);
+        }
+        let first = index * 512;
+        cutting
+            .asks
+            .extend((first..first + 512).map(|at| Ask::Damaged {
+                all: 0,
+                at,
+                by: 1 << rng.below(8),
+            }));
+        cutting.asks.extend((0..32).map(|_| some_damage(&mut rng)));
+        cutting.asks.extend((0..256).map(|byte| Ask::Damaged {
+            all: 1,
+            at: 0,
+            by: byte,
+        }));
+        cutting.asks.extend((0..64).map(|_| some_noise(&mut rng)));
+        cutting.asks.extend((0..64).map(|number| Ask::Noise {
+            seed: rng.draw(),
+            more: 0,
+            fewer: 1 + index * 64 + number,
+        }));
+        while cutting.left() {
+            cutting.step(3, &mut rng);
+        }
+        let asks = cutting.end();
+        streamed(records, &asks, &mut rng)
+    }))
 }
 
 /// Some bytes behind the last record, or none.
@@ -172,7 +302,7 @@ pub fn long(mut rng: Rng, size: Size) -> Requests {
         let logs = (0..3).map(|_| parts(&generate(rng.draw(), &settings)).1);
         let records: Vec<u8> = logs.collect::<Vec<_>>().concat();
         let mut cutting = Cutting::new(edition.number().into(), &records);
-        while cutting.at < records.len() {
+        while cutting.left() {
             let len = rng.below(5_000) as usize;
             cutting.chunk(len, 0);
         }
@@ -327,4 +457,117 @@ pub fn faults(mut rng: Rng, size: Size) -> Requests {
         }
         streamed(records, &asks, &mut rng)
     }))
+}
+
+/// By edited states: counts about 2^31 and 2^32, walked over the border and back with flags that are cleared now and
+/// then, in both modes; and applied numbers about 2^64.
+pub fn far(mut rng: Rng, size: Size) -> Requests {
+    Box::new((0..size.of(300, 6_000)).map(move |_| {
+        let edition = rng.pick(&EDITIONS);
+        let (bank, encoder) = (
+            some_bank(edition, &mut rng),
+            some_encoder(edition, &mut rng),
+        );
+        let mode = match edition.rules().quadrature_only {
+            true => 0,
+            false => rng.pick(&[0, 0, 0, 4]),
+        };
+        let mut records = vec![
+            Fields::write(SELECT, 0, 0, every_encoder(edition)),
+            Fields::write(ENCODER, encoder, 0, 1 | mode),
+            Fields::pins(encoder, 0),
+        ];
+        let first = records.len();
+        let mut place = 0;
+        for _ in 0..rng.between(4, 60) {
+            place = match rng.below(8) {
+                0..=3 => place + 1,
+                4..=6 => place + 3,
+                _ => place + 2,
+            } % 4;
+            records.push(Fields::pins(encoder, [0, 1, 3, 2][place]));
+            if rng.chance(5) {
+                records.push(Fields::write(ENCODER, encoder, 0, 1 | mode | 16));
+                records.push(Fields::write(ENCODER, encoder, 0, 1 | mode));
+            }
+            records.extend([1, 2].map(|register| Fields::read(ENCODER, encoder, register)));
+        }
+        let records: Vec<u8> = super::in_bank(bank, &records)
+            .iter()
+            .flat_map(|fields| fields.to_bytes())
+            .collect();
+        let mut cutting = Cutting::new(edition.number().into(), &records);
+        cutting.chunk(RECORD_LEN * first, 0);
+        let border = rng.pick(&[1 << 31, 1 << 31, 0]);
+        cutting.asks.push(Ask::SetCount {
+            bank: bank.into(),
+            encoder: encoder.into(),
+            count: (border + rng.between(0, 6)).wrapping_sub(3) & 0xFFFF_FFFF,
+        });
+        cutting.asks.push(Ask::SetApplied {
+            applied: rng
+                .pick(&[1u64 << 32, 1 << 56, 1 << 63, 0])
+                .wrapping_sub(rng.below(30)),
+        });
+        while cutting.left() {
+            cutting.step(rng.below(STYLES), &mut rng);
+            cutting.asks.push(Ask::Applied);
+        }
+        let asks = cutting.end();
+        streamed(records, &asks, &mut rng)
+    }))
+}
+
+/// By a run of more than 2^31 records: a count that comes to 2^31, goes back over the border, and on again.
+pub fn counted_far(mut rng: Rng, _: Size) -> Requests {
+    let edition = rng.pick(&EDITIONS);
+    let (bank, encoder) = (
+        some_bank(edition, &mut rng),
+        some_encoder(edition, &mut rng),
+    );
+    let forward =
+        |steps: usize| (1..=steps).map(|step| Fields::pins(encoder, [0, 1, 3, 2][step % 4]));
+    let back = |steps: usize| (1..=steps).map(|step| Fields::pins(encoder, [0, 2, 3, 1][step % 4]));
+    let told = |steps: Vec<Fields>| {
+        let reads = [1, 2].map(|register| Fields::read(ENCODER, encoder, register));
+        steps
+            .into_iter()
+            .flat_map(move |step| [step, reads[0], reads[1]])
+            .collect::<Vec<_>>()
+    };
+    let parts: [Vec<Fields>; 4] = [
+        vec![
+            Fields::write(SELECT, 0, 0, every_encoder(edition)),
+            Fields::write(ENCODER, encoder, 0, 1),
+            Fields::pins(encoder, 0),
+        ],
+        forward(2_048).collect(),
+        forward(2_040).collect(),
+        told(forward(16).chain(back(16)).chain(forward(12)).collect()),
+    ];
+    let parts = parts.map(|part| -> Vec<u8> {
+        let moved = super::in_bank(bank, &part);
+        moved.iter().flat_map(|fields| fields.to_bytes()).collect()
+    });
+    let mut from = 0;
+    let mut asks = vec![start(edition.number().into())];
+    for (index, part) in parts.iter().enumerate() {
+        let len = part.len() as u64;
+        asks.push(match index {
+            1 => Ask::Repeated {
+                from,
+                len,
+                times: (1 << 31) / 2_048 - 1,
+            },
+            _ => Ask::Chunk {
+                from,
+                len,
+                room: len,
+            },
+        });
+        asks.push(Ask::Applied);
+        from += len;
+    }
+    let request = streamed(parts.concat(), &asks, &mut rng);
+    Box::new(std::iter::once(request))
 }

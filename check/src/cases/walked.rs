@@ -33,7 +33,7 @@ impl Asked {
             Call::Sign => records(log).map_or(STRETCH_LEN, |all| {
                 STRETCH_LEN * all.filter(|record| record[0] == PINS).count()
             }),
-            _ => shrink(log).map_or(LOG_MAX, |smaller| smaller.len()),
+            _ => shrink(log).map_or(LOG_MAX, |smaller| smaller.length()),
         }
     }
 

@@ -140,16 +140,29 @@ impl Maker {
         self.bank().select.pwm_routed(channel.into())
     }
 
-    /// An encoder that is routed, if need be only now.
-    pub fn routed_encoder(&mut self) -> u8 {
-        let all = self.rules().encoders;
-        let routed = channels(all, |channel| self.encoder_routed(channel));
-        if !routed.is_empty() {
-            return self.rng.pick(&routed);
+    /// One of so many channels that is as wanted, if need be only now.
+    fn channel(
+        &mut self,
+        all: usize,
+        wanted: fn(&Self, u8) -> bool,
+        make: fn(&mut Self, u8),
+    ) -> u8 {
+        let fitting = channels(all, |channel| wanted(self, channel));
+        if !fitting.is_empty() {
+            return self.rng.pick(&fitting);
         }
         let channel = self.rng.below(all as u64) as u8;
-        self.route_encoder(channel);
+        make(self, channel);
         channel
+    }
+
+    /// An encoder that is routed, if need be only now.
+    pub fn routed_encoder(&mut self) -> u8 {
+        self.channel(
+            self.rules().encoders,
+            Self::encoder_routed,
+            Self::route_encoder,
+        )
     }
 
     pub fn route_encoder(&mut self, channel: u8) {
@@ -162,28 +175,17 @@ impl Maker {
 
     /// An encoder that is not routed, if need be only now.
     pub fn unrouted_encoder(&mut self) -> u8 {
-        let all = self.rules().encoders;
-        let unrouted = channels(all, |channel| !self.encoder_routed(channel));
-        if !unrouted.is_empty() {
-            return self.rng.pick(&unrouted);
-        }
-        let channel = self.rng.below(all as u64) as u8;
-        let mut routing = self.routing();
-        routing.without_encoder(channel, &mut self.rng);
-        self.route(routing);
-        channel
+        let unrouted = |maker: &Self, channel| !maker.encoder_routed(channel);
+        self.channel(self.rules().encoders, unrouted, |maker, channel| {
+            let mut routing = maker.routing();
+            routing.without_encoder(channel, &mut maker.rng);
+            maker.route(routing);
+        })
     }
 
     /// A PWM channel that is routed, if need be only now.
     pub fn routed_pwm(&mut self) -> u8 {
-        let all = self.rules().pwms;
-        let routed = channels(all, |channel| self.pwm_routed(channel));
-        if !routed.is_empty() {
-            return self.rng.pick(&routed);
-        }
-        let channel = self.rng.below(all as u64) as u8;
-        self.route_pwm(channel);
-        channel
+        self.channel(self.rules().pwms, Self::pwm_routed, Self::route_pwm)
     }
 
     pub fn route_pwm(&mut self, channel: u8) {
@@ -196,16 +198,12 @@ impl Maker {
 
     /// A PWM channel that is not routed, if need be only now.
     pub fn unrouted_pwm(&mut self) -> u8 {
-        let all = self.rules().pwms;
-        let unrouted = channels(all, |channel| !self.pwm_routed(channel));
-        if !unrouted.is_empty() {
-            return self.rng.pick(&unrouted);
-        }
-        let channel = self.rng.below(all as u64) as u8;
-        let mut routing = self.routing();
-        routing.without_pwm(channel);
-        self.route(routing);
-        channel
+        let unrouted = |maker: &Self, channel| !maker.pwm_routed(channel);
+        self.channel(self.rules().pwms, unrouted, |maker, channel| {
+            let mut routing = maker.routing();
+            routing.without_pwm(channel);
+            maker.route(routing);
+        })
     }
 
     pub fn route_i2c(&mut self) {

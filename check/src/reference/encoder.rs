@@ -44,6 +44,11 @@ pub struct Encoder {
     pub seen: Option<u8>,
 }
 
+/// Whether the value is, or nothing where no such register can be written.
+pub fn in_range(register: u8, value: u64) -> Option<bool> {
+    (register == CNFG).then_some(value <= CNFG_MAX)
+}
+
 impl Encoder {
     #[inline]
     pub fn read(&self, register: u8) -> Option<u64> {
@@ -62,8 +67,8 @@ impl Encoder {
         routed: bool,
         rules: Rules,
     ) -> Result<(), Refusal> {
-        check(register == CNFG, RECORD_UNKNOWN)?;
-        check(value <= CNFG_MAX, VALUE_OUT_OF_RANGE)?;
+        let fits = in_range(register, value).ok_or(RECORD_UNKNOWN)?;
+        check(fits, VALUE_OUT_OF_RANGE)?;
         check(routed, NOT_ROUTED)?;
         let cnfg = value as u8;
         check(cnfg & MODE == 0 || !rules.quadrature_only, MODE_GONE)?;

@@ -56,6 +56,16 @@ pub struct I2c {
     pub failure: Failure,
 }
 
+/// Whether the value is, or nothing where no such register can be written.
+pub fn in_range(register: u8, value: u64) -> Option<bool> {
+    Some(match register {
+        ADDR => value <= ADDR_MAX,
+        CNTL => value <= CNTL_MAX,
+        GO => value == GO_VALUE,
+        _ => return None,
+    })
+}
+
 impl I2c {
     #[inline]
     pub fn read(&self, register: u8, slaves_answer: bool) -> Option<u64> {
@@ -69,12 +79,7 @@ impl I2c {
     }
 
     pub fn write(&mut self, register: u8, value: u64, routed: bool) -> Result<(), Refusal> {
-        let fits = match register {
-            ADDR => value <= ADDR_MAX,
-            CNTL => value <= CNTL_MAX,
-            GO => value == GO_VALUE,
-            _ => return Err(RECORD_UNKNOWN),
-        };
+        let fits = in_range(register, value).ok_or(RECORD_UNKNOWN)?;
         check(fits, VALUE_OUT_OF_RANGE)?;
         check(routed, NOT_ROUTED)?;
         match register {

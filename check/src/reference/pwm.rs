@@ -31,6 +31,16 @@ pub fn cnfg_fits(value: u64) -> bool {
     value & !u64::from(INV | MODE) == 0
 }
 
+/// Whether the value is, or nothing where no such register can be written.
+pub fn in_range(register: u8, value: u64) -> Option<bool> {
+    Some(match register {
+        CNFG => cnfg_fits(value),
+        CS => value <= CS_MAX,
+        MAX | CMP => value <= COUNTER_MAX.into(),
+        _ => return None,
+    })
+}
+
 impl Pwm {
     #[inline]
     pub fn read(&self, register: u8) -> Option<u64> {
@@ -46,12 +56,7 @@ impl Pwm {
     }
 
     pub fn write(&mut self, register: u8, value: u64, routed: bool) -> Result<(), Refusal> {
-        let fits = match register {
-            CNFG => cnfg_fits(value),
-            CS => value <= CS_MAX,
-            MAX | CMP => value <= COUNTER_MAX.into(),
-            _ => return Err(RECORD_UNKNOWN),
-        };
+        let fits = in_range(register, value).ok_or(RECORD_UNKNOWN)?;
         check(fits, VALUE_OUT_OF_RANGE)?;
         check(routed, NOT_ROUTED)?;
         match register {

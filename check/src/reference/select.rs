@@ -23,6 +23,15 @@ const fn pin_place(pin: u32) -> u64 {
     1 << (2 * pin)
 }
 
+/// Of a port's byte, or of a bank.
+pub fn in_range(value: u64, port: bool) -> bool {
+    if port {
+        value <= PORT_MAX && value & PORT_RESERVED == 0
+    } else {
+        value >> USED_BITS == 0
+    }
+}
+
 /// What was written, and what it routes.
 #[derive(Debug, Clone, Copy, PartialEq, Eq, Default)]
 pub struct Select {
@@ -36,7 +45,7 @@ pub struct Select {
 
 impl Select {
     pub fn of_bank(value: u64) -> Result<Self, Refusal> {
-        check(value >> USED_BITS == 0, VALUE_OUT_OF_RANGE)?;
+        check(in_range(value, false), VALUE_OUT_OF_RANGE)?;
         check(Functions(value).allowed(), SELECT_NOT_ALLOWED)?;
         Ok(Select::routed_by(value))
     }
@@ -53,8 +62,7 @@ impl Select {
     }
 
     pub fn of_port(value: u64) -> Result<Self, Refusal> {
-        let in_range = value <= PORT_MAX && value & PORT_RESERVED == 0;
-        check(in_range, VALUE_OUT_OF_RANGE)?;
+        check(in_range(value, true), VALUE_OUT_OF_RANGE)?;
         let bit = |place: u32| value >> place & 1;
         let [first, second, third] = PORT_PWM.map(bit);
         Ok(Select {

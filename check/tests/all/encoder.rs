@@ -1,4 +1,4 @@
-use crate::common::{readings, run_text};
+use crate::common::{readings, run_text, walked};
 use rivandoze_check::reference::encoder::{
     Encoder, CERR, COVR, DIR, EN, ERR, MODE, RST, SOERR, SOVR, UOERR, UOVR,
 };
@@ -316,14 +316,7 @@ fn an_unrouted_encoder_keeps_everything_readable() {
 
 #[test]
 fn counting_goes_on_after_a_double_change() {
-    let text = "write select 0xA
-        write encoder 0 cnfg 1
-        pins encoder 0 0
-        pins encoder 0 3
-        pins encoder 0 2
-        read encoder 0 cntr
-        read encoder 0 stat";
-    assert_eq!(readings(text), [1, 2]);
+    assert_eq!(walked(&[0, 3, 2]), [1, 2]);
 }
 
 #[test]

@@ -64,21 +64,13 @@ fn random_start(rng: &mut Rng) -> Pwm {
 
 #[test]
 fn at_once_equals_one_by_one_by_chance() {
-    let mut rng = Rng::new(1);
-    for _ in 0..3_000 {
-        let start = random_start(&mut rng);
-        let ticks = rng.below(2_000) as u32;
-        assert_both_ways_equal(&start, ticks);
-    }
-}
-
-#[test]
-fn at_once_equals_one_by_one_on_long_waits() {
-    let mut rng = Rng::new(2);
-    for _ in 0..60 {
-        let start = random_start(&mut rng);
-        let ticks = rng.below(3_000_000) as u32;
-        assert_both_ways_equal(&start, ticks);
+    for (seed, times, most) in [(1, 3_000, 2_000), (2, 60, 3_000_000)] {
+        let mut rng = Rng::new(seed);
+        for _ in 0..times {
+            let start = random_start(&mut rng);
+            let ticks = rng.below(most) as u32;
+            assert_both_ways_equal(&start, ticks);
+        }
     }
 }
 

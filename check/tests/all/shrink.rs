@@ -1,13 +1,15 @@
 //! Shrinking: what is left out, and that nothing is lost by it.
 
-use crate::common::{in_edition, log, run, run_text};
+use crate::common::{assert_comes_up, in_edition, log, run, run_text};
 use rivandoze_check::cases::{Size, SHRINK_FAMILIES};
-use rivandoze_check::exchange::PLACES;
 use rivandoze_check::packed;
 use rivandoze_check::reference::log::Log;
 use rivandoze_check::reference::record::{Fields, PINS, TICKS};
-use rivandoze_check::reference::shrink;
-use std::collections::BTreeSet;
+use rivandoze_check::reference::refusal::Refusal;
+
+fn shrink(log: &[u8]) -> Result<Vec<u8>, Refusal> {
+    rivandoze_check::reference::shrink(log).map(|smaller| smaller.to_vec())
+}
 
 /// The log of these lines, behind which those stand that are left out, each marked by a minus.
 fn leaves_out(edition: u16, marked: &str) {
@@ -142,16 +144,5 @@ fn nothing_is_lost() {
 
 #[test]
 fn every_answer_and_every_place_of_shrinking_comes_up() {
-    let mut met = BTreeSet::new();
-    for family in SHRINK_FAMILIES {
-        for request in family.requests(1, Size::Short) {
-            met.insert((request.right_answer().word & 0xFF, request.place as u64));
-        }
-        let some = |seed| -> Vec<_> { family.requests(seed, Size::Short).take(60).collect() };
-        assert_eq!(some(3), some(3), "{}", family.name);
-        assert_ne!(some(3), some(4), "{}", family.name);
-    }
-    let wanted = (0..=11).chain([16, 18]);
-    let wanted = wanted.flat_map(|refusal| PLACES.map(|place| (refusal, place as u64)));
-    assert_eq!(met, wanted.collect());
+    assert_comes_up(SHRINK_FAMILIES, (0..=11).chain([16, 18]));
 }

@@ -1,8 +1,7 @@
 //! The sign: stretches, and what they settle, against all motions that fit.
 
-use crate::common::{in_edition, log};
+use crate::common::{assert_comes_up, in_edition, log};
 use rivandoze_check::cases::{Size, SIGN_FAMILIES};
-use rivandoze_check::exchange::PLACES;
 use rivandoze_check::generate::Rng;
 use rivandoze_check::packed;
 use rivandoze_check::reference::log::{build, Log};
@@ -214,16 +213,5 @@ fn an_entry_byte_by_byte() {
 
 #[test]
 fn every_answer_and_every_place_of_the_sign_comes_up() {
-    let mut met = BTreeSet::new();
-    for family in SIGN_FAMILIES {
-        for request in family.requests(1, Size::Short) {
-            met.insert((request.right_answer().word & 0xFF, request.place as u64));
-        }
-        let some = |seed| -> Vec<_> { family.requests(seed, Size::Short).take(60).collect() };
-        assert_eq!(some(3), some(3), "{}", family.name);
-        assert_ne!(some(3), some(4), "{}", family.name);
-    }
-    let wanted = (0..=11).chain([16, 18]);
-    let wanted = wanted.flat_map(|refusal| PLACES.map(|place| (refusal, place as u64)));
-    assert_eq!(met, wanted.collect());
+    assert_comes_up(SIGN_FAMILIES, (0..=11).chain([16, 18]));
 }

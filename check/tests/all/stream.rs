@@ -1,9 +1,10 @@
 //! Streams: however the records are cut, all is as in the whole log.
 
 use crate::common::run;
-use rivandoze_check::cases::{Size, STREAM_FAMILIES};
-use rivandoze_check::exchange::PLACES;
+use rivandoze_check::cases::{Size, FAR_FAMILIES, STREAM_FAMILIES};
+use rivandoze_check::exchange::{Request, PLACES};
 use rivandoze_check::generate::{generate, Rng, Settings};
+use rivandoze_check::reference::encoder::{SOERR, SOVR, UOVR};
 use rivandoze_check::reference::log::{each_reading, Log, READING_LEN};
 use rivandoze_check::reference::record::Fields;
 use rivandoze_check::reference::Stream;
@@ -93,30 +94,45 @@ fn after_a_refused_record() {
     assert_eq!(Stream::start(65_537), Err(4));
 }
 
+/// Each call of a script, what it answers, and what stands in its room.
+fn answered(request: &Request) -> Vec<(Ask, u64, Vec<u8>)> {
+    let mut answer = request.right_answer();
+    let mut rest: &[u8] = answer.area.out();
+    let mut all = Vec::new();
+    for ask in asks(&request.beside) {
+        let word = u64::from_le_bytes(rest[..8].try_into().expect("eight bytes"));
+        let room = match ask {
+            Ask::Chunk { room, .. } | Ask::ShortChunk { room, .. } => room as usize,
+            _ => 0,
+        };
+        all.push((ask, word, rest[8..8 + room].to_vec()));
+        rest = &rest[16 + room..];
+    }
+    assert!(rest.is_empty());
+    all
+}
+
 #[test]
 fn every_answer_to_a_script_comes_up() {
     let (mut places, mut words, mut most) = (BTreeSet::new(), BTreeSet::new(), 0);
     for family in STREAM_FAMILIES {
         for request in family.requests(1, Size::Short) {
             places.insert(request.place as u64);
-            let mut answer = request.right_answer();
-            let mut rest: &[u8] = answer.area.out();
-            for ask in asks(&request.beside) {
-                let word = u64::from_le_bytes(rest[..8].try_into().expect("eight bytes"));
-                let room = match ask {
-                    Ask::Chunk { room, .. } | Ask::ShortChunk { room, .. } => room as usize,
-                    _ => 0,
-                };
-                rest = &rest[16 + room..];
+            for (ask, word, _) in answered(&request) {
                 match ask {
-                    Ask::Start { .. } => drop(words.insert(("start", word & 0xFF))),
-                    Ask::Chunk { .. } => drop(words.insert(("chunk", word & 0xFF))),
-                    Ask::End => drop(words.insert(("end", word & 0xFF))),
+                    Ask::Start { .. } | Ask::Again { .. } => {
+                        words.insert(("start", word & 0xFF));
+                    }
+                    Ask::Chunk { .. } => {
+                        words.insert(("chunk", word & 0xFF));
+                    }
+                    Ask::End => {
+                        words.insert(("end", word & 0xFF));
+                    }
                     Ask::Applied => most = most.max(word),
                     _ => {}
                 }
             }
-            assert!(rest.is_empty());
         }
         let some = |seed| -> Vec<_> { family.requests(seed, Size::Short).take(60).collect() };
         assert_eq!(some(3), some(3), "{}", family.name);
@@ -132,4 +148,31 @@ fn every_answer_to_a_script_comes_up() {
     assert_eq!(words, start.into_iter().chain(chunk).chain(end).collect());
     assert_eq!(places.len(), PLACES.len());
     assert!(most > 1 << 16, "{most}");
+}
+
+/// What only edited states come to: both flags of the signed border, a count of 2^31, and applied numbers that begin
+/// anew.
+#[test]
+fn edited_states_come_to_what_no_log_does() {
+    let (mut readings, mut applied) = (BTreeSet::new(), BTreeSet::new());
+    for request in FAR_FAMILIES[0].requests(1, Size::Short) {
+        for (ask, word, given) in answered(&request) {
+            match ask {
+                Ask::Chunk { .. } => readings.extend(each_reading(&given)),
+                Ask::Applied => {
+                    applied.insert(word);
+                }
+                _ => {}
+            }
+        }
+    }
+    for stat in [SOVR, SOVR | SOERR, SOVR | UOVR] {
+        assert!(readings.contains(&stat.into()), "{stat}");
+    }
+    for count in [1 << 31, (1 << 31) - 1, (1 << 31) + 1] {
+        assert!(readings.contains(&count), "{count}");
+    }
+    for number in [u64::MAX, 0, 1, 1 << 63, 1 << 56] {
+        assert!(applied.contains(&number), "{number}");
+    }
 }

@@ -1,6 +1,6 @@
 //! The sums to check by hand, each.
 
-use crate::common::{in_edition, log, readings, run, run_text};
+use crate::common::{in_edition, log, readings, run, run_text, walked};
 use rivandoze_check::reference::{
     brute_pwm, brute_spi, find_pwm, find_spi, rate_pwm, rate_spi, replay, Answer, Bank, Pair,
 };
@@ -67,42 +67,18 @@ fn rates_from_registers_have_no_range() {
 
 #[test]
 fn four_places_forward() {
-    let text = "write select 0xA
-        write encoder 0 cnfg 1
-        pins encoder 0 0
-        pins encoder 0 1
-        pins encoder 0 3
-        pins encoder 0 2
-        pins encoder 0 0
-        read encoder 0 cntr
-        read encoder 0 stat";
-    assert_eq!(readings(text), [4, 0]);
+    assert_eq!(walked(&[0, 1, 3, 2, 0]), [4, 0]);
 }
 
+/// Below 0: DIR and UOVR.
 #[test]
 fn four_places_back() {
-    let text = "write select 0xA
-        write encoder 0 cnfg 1
-        pins encoder 0 0
-        pins encoder 0 2
-        pins encoder 0 3
-        pins encoder 0 1
-        pins encoder 0 0
-        read encoder 0 cntr
-        read encoder 0 stat";
-    // Below 0: DIR and UOVR.
-    assert_eq!(readings(text), [4_294_967_292, 5]);
+    assert_eq!(walked(&[0, 2, 3, 1, 0]), [4_294_967_292, 5]);
 }
 
 #[test]
 fn double_change() {
-    let text = "write select 0xA
-        write encoder 0 cnfg 1
-        pins encoder 0 0
-        pins encoder 0 3
-        read encoder 0 cntr
-        read encoder 0 stat";
-    assert_eq!(readings(text), [0, 2]);
+    assert_eq!(walked(&[0, 3]), [0, 2]);
 }
 
 #[test]

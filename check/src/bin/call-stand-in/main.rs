@@ -4,6 +4,7 @@
 //! `call-stand-in list CALL` names the mistakes of a call, `call-stand-in MISTAKE` makes one, and `call-stand-in none`
 //! makes none.
 
+mod far;
 mod mistakes;
 mod shrink;
 mod sign;
@@ -11,9 +12,8 @@ mod stream;
 mod write;
 
 use mistakes::{Mistake, GROUPS};
-use rivandoze_check::exchange::{Answer, Call, Request};
+use rivandoze_check::exchange::{answer_all, Answer, Call, Request};
 use rivandoze_check::script;
-use std::io;
 use std::process::ExitCode;
 use stream::Wrong;
 
@@ -35,26 +35,13 @@ fn main() -> ExitCode {
             .map(|(_, mistake)| *mistake),
         _ => None,
     };
-    match mistake.map(answer_all) {
-        Some(Ok(())) => ExitCode::SUCCESS,
-        Some(Err(error)) => {
-            eprintln!("call-stand-in: {error}");
-            ExitCode::from(2)
-        }
+    match mistake {
+        Some(mistake) => answer_all("call-stand-in", |request| answer(request, mistake)),
         None => {
             eprintln!("no such mistake: {}", words.join(" "));
             ExitCode::from(2)
         }
     }
-}
-
-fn answer_all(mistake: Mistake) -> io::Result<()> {
-    let mut stdin = io::stdin().lock();
-    let mut stdout = io::BufWriter::new(io::stdout().lock());
-    while let Some(request) = Request::read_from(&mut stdin)? {
-        answer(&request, mistake).write_to(&mut stdout)?;
-    }
-    Ok(())
 }
 
 fn answer(request: &Request, mistake: Mistake) -> Answer {

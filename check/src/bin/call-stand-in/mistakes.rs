@@ -196,6 +196,9 @@ mistakes! {
         StreamByteBehindRoom "stream-byte-behind-the-room"
         StreamRoomCleared "stream-rest-of-the-room-cleared"
         StreamMoveLoses "stream-lost-when-moved"
+        StreamsShared "stream-one-state-for-two"
+        StreamNoiseTaken "stream-any-bytes-taken"
+        StreamNoiseIs6 "stream-any-bytes-are-6"
         // The start.
         StreamNo3 "stream-edition-3-refused"
         StreamNo4 "stream-edition-4-refused"
@@ -205,6 +208,10 @@ mistakes! {
         StreamEdition2Always "stream-edition-2-always"
         StreamSixBefore4 "stream-6-before-4"
         StreamShortStarts "stream-starts-in-a-short-state"
+        StreamAgainCounts "stream-started-again-counts-on"
+        StreamAgainCarries "stream-started-again-carries-on"
+        StreamAgainRefuses "stream-started-again-refuses-on"
+        StreamRefusedStartClears "stream-refused-start-clears"
         StreamShortTaken "stream-short-state-taken"
         StreamShortIs6 "stream-short-state-is-6"
         // Cuts.
@@ -249,5 +256,23 @@ mistakes! {
         StreamAppliedShifted "stream-applied-above-the-refusal"
         StreamApplied0 "stream-applied-0-where-refused"
         StreamAppliedReadings "stream-readings-applied"
+    }
+    far {
+        FarAppliedStops "far-applied-stops-at-the-largest"
+        FarAppliedOf56Bits "far-applied-of-56-bits"
+        FarAppliedOf63Bits "far-applied-of-63-bits"
+        FarAppliedTo1 "far-applied-goes-to-1"
+        FarNoSovr "far-no-sovr"
+        FarNoSovrUp "far-no-sovr-up"
+        FarNoSovrDown "far-no-sovr-down"
+        FarSovrOneLate "far-sovr-one-late"
+        FarSovrOneEarly "far-sovr-one-early"
+        FarUovrToo "far-uovr-with-sovr"
+        FarUovrInstead "far-uovr-instead-of-sovr"
+        FarNoSoerr "far-no-soerr"
+        FarSoerrAtOnce "far-soerr-at-once"
+        FarUoerrInstead "far-uoerr-instead-of-soerr"
+        FarSovrAgainClears "far-sovr-cleared-by-the-second"
+        FarStopsAtTheBorder "far-count-stops-at-the-border"
     }
 }

@@ -8,9 +8,8 @@ mod reader;
 mod writer;
 
 use mistakes::{Mistake, MISTAKES};
-use rivandoze_check::exchange::{Answer, Call, Request};
+use rivandoze_check::exchange::{answer_all, Answer, Call, Request};
 use rivandoze_check::reference::refusal::{Refusal, OUTPUT_TOO_SHORT};
-use std::io;
 use std::process::ExitCode;
 
 fn main() -> ExitCode {
@@ -22,29 +21,13 @@ fn main() -> ExitCode {
         return ExitCode::SUCCESS;
     }
     let found = MISTAKES.iter().find(|(known, _)| *known == name);
-    let answered = match found {
-        Some((_, mistake)) => answer_all(*mistake),
+    match found {
+        Some((_, mistake)) => answer_all("dump-stand-in", |request| answer(request, *mistake)),
         None => {
             eprintln!("no such mistake: {name}");
-            return ExitCode::from(2);
-        }
-    };
-    match answered {
-        Ok(()) => ExitCode::SUCCESS,
-        Err(error) => {
-            eprintln!("dump-stand-in: {error}");
             ExitCode::from(2)
         }
     }
-}
-
-fn answer_all(mistake: Mistake) -> io::Result<()> {
-    let mut stdin = io::stdin().lock();
-    let mut stdout = io::BufWriter::new(io::stdout().lock());
-    while let Some(request) = Request::read_from(&mut stdin)? {
-        answer(&request, mistake).write_to(&mut stdout)?;
-    }
-    Ok(())
 }
 
 fn answer(request: &Request, mistake: Mistake) -> Answer {

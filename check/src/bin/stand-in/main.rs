@@ -9,8 +9,7 @@ mod replay;
 mod waits;
 
 use mistakes::{Mistake, MISTAKES};
-use rivandoze_check::exchange::{Answer, Call, Request};
-use std::io;
+use rivandoze_check::exchange::{answer_all, Answer, Call, Request};
 use std::process::ExitCode;
 
 fn main() -> ExitCode {
@@ -30,22 +29,7 @@ fn main() -> ExitCode {
             return ExitCode::from(2);
         }
     };
-    match answer_all(mistake) {
-        Ok(()) => ExitCode::SUCCESS,
-        Err(error) => {
-            eprintln!("stand-in: {error}");
-            ExitCode::from(2)
-        }
-    }
-}
-
-fn answer_all(mistake: Option<Mistake>) -> io::Result<()> {
-    let mut stdin = io::stdin().lock();
-    let mut stdout = io::BufWriter::new(io::stdout().lock());
-    while let Some(request) = Request::read_from(&mut stdin)? {
-        answer(&request, mistake).write_to(&mut stdout)?;
-    }
-    Ok(())
+    answer_all("stand-in", |request| answer(request, mistake))
 }
 
 fn answer(request: &Request, mistake: Option<Mistake>) -> Answer {
