@@ -201,6 +201,7 @@ fn written(edition: u64, notes: &[u8]) -> Result<Vec<u8>, String> {
     Ok(log.to_vec())
 }
 
+/// By docs/SIGN.md.
 fn stretch_line(stretch: &Stretch) -> String {
     let Stretch {
         bank,
@@ -210,16 +211,45 @@ fn stretch_line(stretch: &Stretch) -> String {
         pins,
         steps,
         doubles,
-    } = stretch;
+    } = *stretch;
+    let doubt = 2 * doubles as i64;
     let way = match stretch.way() {
-        Way::Open => "open",
-        Way::Forward => "forward",
-        Way::Backward => "backward",
-        Way::Still => "still",
+        Way::Open => {
+            let short = doubt + 1 - steps.abs();
+            format!("open, {short} step{} short of a direction", plural(short))
+        }
+        Way::Forward => "forward".into(),
+        Way::Backward => "backward".into(),
+        Way::Still => "still".into(),
     };
     format!(
-        "bank {bank} encoder {encoder} records {first} to {last} pins {pins} steps {steps} doubles {doubles} {way}\n"
+        "bank {bank} encoder {encoder}: records {first} to {last}, {pins} pin{}, {} step{}, \
+         {doubles} double change{}, travel {} to {}: {way}\n",
+        plural(pins.into()),
+        signed(steps),
+        plural(steps),
+        plural(doubles as i64),
+        signed(steps - doubt),
+        signed(steps + doubt),
     )
+}
+
+/// What a word ends in behind a number.
+fn plural(number: i64) -> &'static str {
+    if number.abs() == 1 {
+        ""
+    } else {
+        "s"
+    }
+}
+
+/// With its sign; 0 has none.
+fn signed(number: i64) -> String {
+    if number == 0 {
+        "0".into()
+    } else {
+        format!("{number:+}")
+    }
 }
 
 fn streamed(edition: u64, records: &[u8]) -> String {

@@ -1,6 +1,6 @@
 //! The program as it is run.
 
-use crate::common::log;
+use crate::common::{in_edition, log};
 use std::io::Write;
 use std::process::{Command, Output, Stdio};
 
@@ -144,4 +144,86 @@ fn dump_and_the_way_back() {
         (refused.stdout, refused.stderr),
         (vec![], b"refused 9\n".to_vec())
     );
+}
+
+/// The lines that docs/SIGN.md has for an example. No one log has all three.
+#[test]
+fn sign_prints_the_lines_of_its_document() {
+    let text = "write select 0xAA
+        write encoder 0 cnfg 1
+        write encoder 1 cnfg 1
+        pins encoder 0 0
+        pins encoder 0 1
+        pins encoder 1 2
+        pins encoder 0 3";
+    assert_eq!(
+        printed(&["sign"], &log(text)),
+        "bank 0 encoder 0: records 3 to 6, 3 pins, +2 steps, 0 double changes, travel +2 to +2: forward\n\
+         bank 0 encoder 1: records 5 to 5, 1 pin, 0 steps, 0 double changes, travel 0 to 0: still\n\
+         applied 7 refused 0\n"
+    );
+    let text = "ticks 1\nticks 1\nticks 1\nticks 1\nticks 1
+        bank 1 write select 0xA0000
+        bank 1 write encoder 4 cnfg 1
+        bank 1 pins encoder 4 0
+        bank 1 pins encoder 4 3
+        bank 1 pins encoder 4 0
+        bank 1 pins encoder 4 2
+        bank 1 pins encoder 4 1";
+    assert_eq!(
+        printed(&["sign"], &log(&in_edition(2, text))),
+        "bank 1 encoder 4: records 7 to 11, 5 pins, -1 step, 3 double changes, travel -7 to +5: \
+         open, 6 steps short of a direction\napplied 12 refused 0\n"
+    );
+}
+
+/// One and many, plus and minus, and 0 at either end of the travel; of a log that is refused, too.
+#[test]
+fn sign_counts_in_words() {
+    let lines = |walk: &[u8], refused: &str| {
+        let pins = walk.iter().map(|pins| format!("pins encoder 0 {pins}\n"));
+        let pins: String = pins.collect();
+        let text = format!("write select 10\nwrite encoder 0 cnfg 1\n{pins}{refused}");
+        printed(&["sign"], &log(&text))
+    };
+    for (walk, wanted) in [
+        (
+            &[0, 1][..],
+            "2 pins, +1 step, 0 double changes, travel +1 to +1: forward",
+        ),
+        (
+            &[0, 2, 3, 1, 2],
+            "5 pins, -3 steps, 1 double change, travel -5 to -1: backward",
+        ),
+        (
+            &[0, 1, 3, 0],
+            "4 pins, +2 steps, 1 double change, travel 0 to +4: open, 1 step short of a direction",
+        ),
+        (
+            &[0, 2, 3, 0],
+            "4 pins, -2 steps, 1 double change, travel -4 to 0: open, 1 step short of a direction",
+        ),
+        (
+            &[0, 3, 2],
+            "3 pins, +1 step, 1 double change, travel -1 to +3: open, 2 steps short of a direction",
+        ),
+        (
+            &[1, 2],
+            "2 pins, 0 steps, 1 double change, travel -2 to +2: open, 3 steps short of a direction",
+        ),
+        (
+            &[0, 1, 1, 0],
+            "4 pins, 0 steps, 0 double changes, travel 0 to 0: still",
+        ),
+    ] {
+        let (last, applied) = (walk.len() + 1, walk.len() + 2);
+        let line = format!("bank 0 encoder 0: records 2 to {last}, {wanted}\napplied {applied}");
+        assert_eq!(lines(walk, ""), format!("{line} refused 0\n"));
+        assert_eq!(
+            lines(walk, "pins encoder 9 0"),
+            format!("{line} refused 9\n")
+        );
+    }
+    assert_eq!(lines(&[], ""), "applied 2 refused 0\n");
+    assert_eq!(printed(&["sign"], b""), "applied 0 refused 2\n");
 }
