@@ -11,8 +11,9 @@ trap 'rm -rf "$work"' EXIT
 # The most instructions of the library for a record that is written. The goal is twice the second program's: 96.
 written=1330
 # The most times as many of the library as it takes to replay the same log, where a call does more with it than that. The goals are 1.30 for
-# the judge, 1.50 for the sign and 2.50 for shrinking.
-judged=1.38
+# the judge, 1.50 for the sign and 2.50 for shrinking. The judge of nothing but reads does not meet its goal yet, and the sign neither.
+judged=1.30
+judged_reads=1.38
 signed=2.30
 shrunk=2.50
 dumped=2.00
@@ -31,7 +32,7 @@ a mix, waits of any length|100|90
 a mix over both banks|110|102
 waits only, 20 PWM channels|950|940
 waits only, 40 PWM channels|1650|1630
-reads, judged|80|80|$judged
+reads, judged|80|80|$judged_reads
 a mix, waits to 20 ticks, judged|100|105|$judged
 the finder, a request|80|58
 pins, changing bank, dumped|150|171|$dumped

@@ -7,7 +7,7 @@ need cargo cargo
 out=$(mktemp)
 trap 'rm -f "$out"' EXIT
 
-cargo test --release --offline --jobs 1 --manifest-path check/Cargo.toml --target-dir target/check >"$out" 2>&1
+cargo test --release --offline --lib --test all --manifest-path check/Cargo.toml --target-dir target/check >"$out" 2>&1
 status=$?
 sed -n -e 's/^test \(.*\) \.\.\. ok$/ok reference: \1/p' -e 's/^test \(.*\) \.\.\. FAILED$/FAIL reference: \1/p' "$out"
 if [ "$status" -ne 0 ]; then
