@@ -200,6 +200,11 @@ fn times(folder: &Path, rounds: u64) {
 fn counts(folder: &Path) {
     let file = folder.join("callgrind");
     let output = Command::new("valgrind")
+        // A `rep stosb` is counted once for each byte, and which processors the C library takes it for differs: none here.
+        .env(
+            "GLIBC_TUNABLES",
+            "glibc.cpu.x86_rep_stosb_threshold=16777216:glibc.cpu.x86_rep_movsb_threshold=16777216",
+        )
         .args(["--tool=callgrind", "--combine-dumps=yes", "--dump-line=no"])
         .args(["--zero-before=counted", "--dump-after=counted"])
         .arg(format!("--callgrind-out-file={}", file.display()))
