@@ -37,7 +37,7 @@ fn bit_pattern(at: i32) -> u32
 }
 
 // The count that a bit pattern stands for.
-fn count_of(b: u32) -> i32
+pub fn count_of(b: u32) -> i32
     ensures { λ r. ⌜ r ≡ signed b ⌝ }
 {
     if b < 2147483648 {

@@ -1,0 +1,243 @@
+-- The loops of the code: what each has done after i turns.
+-- Assumes nothing.
+use mathlib.Core.Path.{_≡_, refl, sym, ap, _∙_}
+use mathlib.Core.Bool.{Bool, true, false, _&&_, _||_, and-true, and-false}
+use mathlib.Core.List.{List, [], _∷_, _++_, map, append-nil, append-assoc}
+use Prim.Native.Nat.{ℕ, zero, suc, _+_, _*_, _/_, _%_, _^_, _≤_, _<_}
+use native.Mathlib.Omega.{arith}
+use native.Mathlib.Nat.{le-antisymm}
+use lib.ListN.{length, getD, set, take}
+use native.Mathlib.Numerals.{add-one}
+use lib.Seq.{sets, length-sets, length-take-le, take-suc, take-all}
+use lib.Dec.{ltb, eqb}
+use Rattle.laws.proofs.Each.{long-field}
+use Rattle.wire.specs.Bytes.{byte, leOf, leBytes}
+use Rattle.codec.specs.Codec.{saveWord, loadWord, okWord, saveMany, loadMany, okMany}
+use Rattle.codec.proofs.Loops.{loaded, loaded-none, loaded-more, loaded-all, tested-none, tested-more, saved, saved-none, saved-more, saved-all, sets-append}
+use Rattle.encoder.specs.declared.Encoder.{Encoder}
+use Rattle.pwm.specs.declared.Pwm.{Pwm}
+use Rattle.i2c.specs.declared.I2c.{I2c}
+use Rattle.banks.specs.declared.Flat.{Flat}
+use Rattle.image_words.specs.Words.{i2cNumber, encoderOf, isEncoder, pwmOf, isRegisters, isWave, isShort, registersNumber, waveNumber}
+use Rattle.image_words.specs.How.{lowNumber, isQuick}
+use Rattle.image_words.proofs.Numbers.{quick-short}
+use Rattle.image.specs.Image.{savePwm, loadPwm, okPwm, isCarried}
+use Rattle.image.specs.How.{withEncoders, withPwms, okWave, okQuick}
+
+-- ---- testing
+
+module _ (w : ℕ) (ok : List ℕ → ℕ → Bool) (s : List ℕ) (at : ℕ) where
+  abbrev pub Tested : Bool → ℕ → Type 0
+  Tested all i = all ≡ okMany w ok i s at
+
+  pub test-none : true ≡ okMany w ok 0 s at
+  test-none = tested-none w ok s at
+
+  pub test-more : (i : ℕ) (all t : Bool) → all ≡ okMany w ok i s at → t ≡ ok s (at + w * i) → (all && t) ≡ okMany w ok (i + 1) s at
+  test-more i all t p q = rw (p, q) (tested-more w ok s at i)
+
+  pub test-all : (i n : ℕ) (all : Bool) → all ≡ okMany w ok i s at → i ≤ n → n ≤ i → all ≡ okMany w ok n s at
+  test-all i n all p h k = p ∙ ap (λ (m : ℕ). okMany w ok m s at) (le-antisymm h k)
+
+module _ (s : List ℕ) (i : ℕ) (all : Bool) where
+  pub carried-more : (end : ℕ) → all ≡ okMany 1 (isCarried end) i s 16 → (all && (ltb (16 + i) end || eqb (byte s (16 + i)) 0)) ≡ okMany 1 (isCarried end) (i + 1) s 16
+  carried-more end p = let e : 16 + i ≡ 16 + 1 * i = omega arith in test-more 1 (isCarried end) s 16 i all _ p (ap (isCarried end s) e)
+
+  pub encoders-more : (v : ℕ) (t : Bool) → all ≡ okMany 8 (okWord isEncoder) i s 64 → v ≡ leOf 8 s (64 + 8 * i) → t ≡ isEncoder v → (all && t) ≡ okMany 8 (okWord isEncoder) (i + 1) s 64
+  encoders-more v t p q r = test-more 8 (okWord isEncoder) s 64 i all t p (r ∙ ap isEncoder q)
+
+  pub registers-more : (v : ℕ) (t : Bool) → all ≡ okMany 16 (okWord isRegisters) i s 224 → v ≡ leOf 8 s (224 + 16 * i) → t ≡ isRegisters v
+      → (all && t) ≡ okMany 16 (okWord isRegisters) (i + 1) s 224
+  registers-more v t p q r = test-more 16 (okWord isRegisters) s 224 i all t p (r ∙ ap isRegisters q)
+
+  second : 232 + 16 * i ≡ 224 + 16 * i + 8
+  second = omega arith
+
+  pub waves-more : (v : ℕ) → all ≡ okMany 16 okWave i s 224 → v ≡ leOf 8 s (232 + 16 * i) → (all && ltb (v / 2 ^ 24) 2) ≡ okMany 16 okWave (i + 1) s 224
+  waves-more v p q = test-more 16 okWave s 224 i all (isWave v) p (ap isWave (q ∙ ap (leOf 8 s) second))
+
+  pub quick-more : (v w : ℕ) (t : Bool) → all ≡ okMany 16 okQuick i s 224 → v ≡ leOf 8 s (224 + 16 * i) → w ≡ leOf 8 s (232 + 16 * i) → t ≡ isQuick v w
+      → (all && t) ≡ okMany 16 okQuick (i + 1) s 224
+  quick-more v w t p q r e = test-more 16 okQuick s 224 i all t p (e ∙ rw (q, r, second))
+
+-- the three tests of each channel, one after the other
+three : (a b c d : Bool) → (a ≡ true → c ≡ d) → ((a && b) && c) ≡ a && (b && d)
+three false b c d h = refl
+three true false c d h = refl
+three true true c d h = h refl
+
+rows : (a b c x y z : Bool) → ((a && (b && c)) && (x && (y && z))) ≡ (a && x) && ((b && y) && (c && z))
+rows false b c x y z = refl
+rows true false c false y z = refl
+rows true false c true y z = refl
+rows true true false false y z = refl
+rows true true false true false z = refl
+rows true true false true true z = refl
+rows true true true false y z = refl
+rows true true true true false z = refl
+rows true true true true true z = refl
+
+pub pwms-tested : (s : List ℕ) (n at : ℕ) → okMany 16 okPwm n s at ≡ okMany 16 (okWord isRegisters) n s at && (okMany 16 okWave n s at && okMany 16 okQuick n s at)
+unfolding okMany
+pwms-tested s zero at = refl
+pwms-tested s (suc n) at =
+    rw (three (isRegisters (leOf 8 s at)) (isWave (leOf 8 s (at + 8))) (isShort (loadPwm s at)) (okQuick s at) (quick-short (leOf 8 s at) (leOf 8 s (at + 8))), pwms-tested s n (at + 16))
+    (rows (isRegisters (leOf 8 s at)) (okWave s at) (okQuick s at) _ _ _)
+
+-- ---- loading
+
+abbrev pub flat-encoders : Flat → List Encoder → Flat
+flat-encoders f l = record { selects = f .selects; encoders = l; pwms = f .pwms; i2cs = f .i2cs }
+
+abbrev pub flat-pwms : Flat → List Pwm → Flat
+flat-pwms f l = record { selects = f .selects; encoders = f .encoders; pwms = l; i2cs = f .i2cs }
+
+module _ (s : List ℕ) (f : Flat) where
+  abbrev pub encoders-to : ℕ → Flat
+  encoders-to i = flat-encoders f (loaded 8 (loadWord encoderOf) s 64 i (f .encoders))
+
+  pub encoders-none : f ≡ encoders-to 0
+  encoders-none = ap (flat-encoders f) (loaded-none 8 (loadWord encoderOf) s 64 (f .encoders))
+
+  abbrev pub pwms-to : ℕ → Flat
+  pwms-to i = flat-pwms f (loaded 16 loadPwm s 224 i (f .pwms))
+
+  pub pwms-none : f ≡ pwms-to 0
+  pwms-none = ap (flat-pwms f) (loaded-none 16 loadPwm s 224 (f .pwms))
+
+  module _ {Y : Type 0} (g : Encoder → Y) (known : length (map g (f .encoders)) ≡ 20) (x : Flat) (i : ℕ) (here : x ≡ encoders-to i) where
+    pub encoders-next : (v : ℕ) (e : Encoder) → i < 20 → v ≡ leOf 8 s (64 + 8 * i) → e ≡ encoderOf v → flat-encoders x (set (x .encoders) i e) ≡ encoders-to (i + 1)
+    encoders-next v e h p q =
+        rw (q, p, here) (ap (flat-encoders f) (loaded-more 8 (loadWord encoderOf) s 64 (f .encoders) i (omega (arith, long-field _ _ g (f .encoders) 20 known))))
+
+    pub encoders-all : i ≤ 20 → 20 ≤ i → x ≡ withEncoders f s
+    unfolding withEncoders
+    encoders-all h k = here ∙ ap (flat-encoders f) (loaded-all 8 (loadWord encoderOf) s 64 (f .encoders) i 20 (long-field _ _ g (f .encoders) 20 known) h k)
+
+  module _ {Y : Type 0} (g : Pwm → Y) (known : length (map g (f .pwms)) ≡ 40) (x : Flat) (i : ℕ) (here : x ≡ pwms-to i) where
+    pub pwms-next : (v w : ℕ) (p : Pwm) → i < 40 → v ≡ leOf 8 s (224 + 16 * i) → w ≡ leOf 8 s (232 + 16 * i) → p ≡ pwmOf v w
+        → flat-pwms x (set (x .pwms) i p) ≡ pwms-to (i + 1)
+    pwms-next v w p h a b q =
+        let e : 232 + 16 * i ≡ 224 + 16 * i + 8 = omega arith in
+        rw (q, a, b, e, here) (ap (flat-pwms f) (loaded-more 16 loadPwm s 224 (f .pwms) i (omega (arith, long-field _ _ g (f .pwms) 40 known))))
+
+    pub pwms-all : i ≤ 40 → 40 ≤ i → x ≡ withPwms f s
+    unfolding withPwms
+    pwms-all h k = here ∙ ap (flat-pwms f) (loaded-all 16 loadPwm s 224 (f .pwms) i 40 (long-field _ _ g (f .pwms) 40 known) h k)
+
+module _ (s l : List ℕ) where
+  abbrev pub bytes-to : ℕ → List ℕ
+  bytes-to i = loaded 1 byte s 16 i l
+
+  pub bytes-none : l ≡ bytes-to 0
+  bytes-none = loaded-none 1 byte s 16 l
+
+  module _ (known : length l ≡ 16) (x : List ℕ) (i : ℕ) (here : x ≡ bytes-to i) where
+    pub bytes-next : i < 16 → set x i (byte s (16 + i)) ≡ bytes-to (i + 1)
+    bytes-next h =
+        let e : 16 + i ≡ 16 + 1 * i = omega arith in
+        rw (here, e) (loaded-more 1 byte s 16 l i (omega arith))
+
+    pub bytes-all : i ≤ 16 → 16 ≤ i → x ≡ loadMany 1 byte 16 s 16
+    bytes-all h k = here ∙ loaded-all 1 byte s 16 l i 16 known h k
+
+-- ---- saving
+
+pub same-long : (out₀ out xs : List ℕ) (at : ℕ) → out ≡ sets out₀ at xs → length out ≡ length out₀
+same-long out₀ out xs at e = ap length e ∙ length-sets out₀ at xs
+
+module _ (out₀ out xs : List ℕ) (at : ℕ) (e : out ≡ sets out₀ at xs) (room : 864 ≤ length out₀) (i : ℕ) where
+  pub room-carried : i < 16 → 16 + i < length out
+  room-carried h = omega (arith, same-long out₀ out xs at e)
+
+  pub room-encoders : i < 20 → 64 + 8 * i + 8 ≤ length out
+  room-encoders h = omega (arith, same-long out₀ out xs at e)
+
+  pub room-pwms : i < 40 → 224 + 16 * i + 16 ≤ length out
+  room-pwms h = omega (arith, same-long out₀ out xs at e)
+
+-- a byte after the other
+module _ (out₀ l : List ℕ) where
+  abbrev pub carried-in : ℕ → List ℕ
+  carried-in i = sets out₀ 16 (take i l)
+
+  pub carried-out : out₀ ≡ carried-in 0
+  carried-out = refl
+
+  module _ (known : length l ≡ 16) (out : List ℕ) (i : ℕ) (here : out ≡ carried-in i) where
+    pub carried-on : i < 16 → set out (16 + i) (byte l i) ≡ carried-in (i + 1)
+    carried-on h =
+        let long : length (take i l) ≡ i = length-take-le i l (omega arith) in
+        rw (here, add-one i, take-suc l i 0 (omega arith)) (sets-append out₀ (take i l) (byte l i ∷ []) 16 i long)
+
+    pub carried-done : i ≤ 16 → 16 ≤ i → out ≡ sets out₀ 16 l
+    carried-done h k = here ∙ ap (sets out₀ 16) (take-all i l (omega arith))
+
+module _ (out₀ : List ℕ) (f : Flat) where
+  abbrev pub encoders-in : ℕ → List ℕ
+  encoders-in i = saved 8 (saveWord lowNumber) (λ x. refl) out₀ 64 i (f .encoders)
+
+  pub encoders-out : out₀ ≡ encoders-in 0
+  encoders-out = saved-none 8 (saveWord lowNumber) (λ x. refl) out₀ 64 (f .encoders)
+
+  abbrev pub pwms-in : ℕ → List ℕ
+  pwms-in i = saved 16 savePwm (λ x. refl) out₀ 224 i (f .pwms)
+
+  pub pwms-out : out₀ ≡ pwms-in 0
+  pwms-out = saved-none 16 savePwm (λ x. refl) out₀ 224 (f .pwms)
+
+  module _ {Y : Type 0} (g : Encoder → Y) (known : length (map g (f .encoders)) ≡ 20) where
+    pub encoders-long : length (f .encoders) ≡ 20
+    encoders-long = long-field _ _ g (f .encoders) 20 known
+
+    module _ (out : List ℕ) (i : ℕ) (here : out ≡ encoders-in i) where
+      pub encoders-on : (d : Encoder) (v : ℕ) (out′ : List ℕ) → i < 20 → v ≡ lowNumber (getD (f .encoders) i d) → out′ ≡ sets out (64 + 8 * i) (leBytes 8 v) → out′ ≡ encoders-in (i + 1)
+      encoders-on d v out′ h p q = q ∙ rw (p, here) (saved-more 8 (saveWord lowNumber) (λ x. refl) out₀ 64 (f .encoders) i d (omega (arith, encoders-long)))
+
+      pub encoders-done : i ≤ 20 → 20 ≤ i → out ≡ sets out₀ 64 (saveMany (saveWord lowNumber) (f .encoders))
+      encoders-done h k = here ∙ saved-all 8 (saveWord lowNumber) (λ x. refl) out₀ 64 (f .encoders) i 20 encoders-long h k
+
+  module _ {Y : Type 0} (g : Pwm → Y) (known : length (map g (f .pwms)) ≡ 40) where
+    pub pwms-long : length (f .pwms) ≡ 40
+    pwms-long = long-field _ _ g (f .pwms) 40 known
+
+    module _ (out : List ℕ) (i : ℕ) (here : out ≡ pwms-in i) where
+      pub pwms-on : (d : Pwm) (out′ : List ℕ) → i < 40 → out′ ≡ sets out (224 + 16 * i) (savePwm (getD (f .pwms) i d)) → out′ ≡ pwms-in (i + 1)
+      pwms-on d out′ h q = q ∙ rw here (saved-more 16 savePwm (λ x. refl) out₀ 224 (f .pwms) i d (omega (arith, pwms-long)))
+
+      pub pwms-done : i ≤ 40 → 40 ≤ i → out ≡ sets out₀ 224 (saveMany savePwm (f .pwms))
+      pwms-done h k = here ∙ saved-all 16 savePwm (λ x. refl) out₀ 224 (f .pwms) i 40 pwms-long h k
+
+-- two words in a row
+pub pwm-put : (p : Pwm) (at v w : ℕ) (o₀ o₁ o₂ : List ℕ) → v ≡ registersNumber (p .registers) → w ≡ waveNumber (p .wave) → o₁ ≡ sets o₀ at (leBytes 8 v) → o₂ ≡ sets o₁ (at + 8) (leBytes 8 w) → o₂ ≡ sets o₀ at (savePwm p)
+pwm-put p at v w o₀ o₁ o₂ a b e f = f ∙ rw (e, a, b) (sets-append o₀ (leBytes 8 (registersNumber (p .registers))) (leBytes 8 (waveNumber (p .wave))) at 8 refl)
+
+-- two elements in a row
+module _ {X : Type 0} (save : X → List ℕ) where
+  pub two : (l : List X) (d : X) → length l ≡ 2 → saveMany save l ≡ save (getD l 0 d) ++ save (getD l 1 d)
+  unfolding saveMany
+  two [] d h = absurd (omega (arith, h))
+  two (x ∷ []) d h = absurd (omega (arith, h))
+  two (x ∷ y ∷ []) d h = ap (λ (t : List ℕ). save x ++ t) (append-nil (save y))
+  two (x ∷ y ∷ z ∷ l) d h = absurd (omega (arith, h))
+
+four-puts : (o₀ o₁ o₂ o₃ o₄ a b c d : List ℕ) → o₁ ≡ sets o₀ 32 a → o₂ ≡ sets o₁ 40 b → o₃ ≡ sets o₂ 48 c → o₄ ≡ sets o₃ 56 d → length a ≡ 8 → length b ≡ 8 → length c ≡ 8
+    → o₄ ≡ sets o₀ 32 ((a ++ b) ++ (c ++ d))
+four-puts o₀ o₁ o₂ o₃ o₄ a b c d p₁ p₂ p₃ p₄ ha hb hc =
+    p₄
+    ∙ rw (p₃, p₂, p₁)
+    (sets-append (sets (sets o₀ 32 a) 40 b) c d 48 8 hc
+    ∙ sets-append (sets o₀ 32 a) b (c ++ d) 40 8 hb
+    ∙ sets-append o₀ a (b ++ (c ++ d)) 32 8 ha
+    ∙ ap (sets o₀ 32) (sym (append-assoc a b (c ++ d))))
+
+module _ (f : Flat) (selects-long : length (f .selects) ≡ 2) (i2cs-long : length (f .i2cs) ≡ 2) where
+  pub firsts-put : (d : I2c) (v w : ℕ) (o₀ o₁ o₂ o₃ o₄ : List ℕ) → o₁ ≡ sets o₀ 32 (leBytes 8 (getD (f .selects) 0 0)) → o₂ ≡ sets o₁ 40 (leBytes 8 (getD (f .selects) 1 0))
+      → v ≡ i2cNumber (getD (f .i2cs) 0 d) → o₃ ≡ sets o₂ 48 (leBytes 8 v) → w ≡ i2cNumber (getD (f .i2cs) 1 d) → o₄ ≡ sets o₃ 56 (leBytes 8 w)
+      → o₄ ≡ sets o₀ 32 (saveMany (leBytes 8) (f .selects) ++ saveMany (saveWord i2cNumber) (f .i2cs))
+  firsts-put d v w o₀ o₁ o₂ o₃ o₄ a b p c q e =
+      four-puts o₀ o₁ o₂ o₃ o₄ (leBytes 8 (getD (f .selects) 0 0)) (leBytes 8 (getD (f .selects) 1 0)) (leBytes 8 (i2cNumber (getD (f .i2cs) 0 d))) (leBytes 8 (i2cNumber (getD (f .i2cs) 1 d))) a b
+      (c ∙ ap (λ (n : ℕ). sets o₂ 48 (leBytes 8 n)) p)
+      (e ∙ ap (λ (n : ℕ). sets o₃ 56 (leBytes 8 n)) q)
+      refl refl refl
+      ∙ (λ i. sets o₀ 32 (sym (two (leBytes 8) (f .selects) 0 selects-long) i ++ sym (two (saveWord i2cNumber) (f .i2cs) d i2cs-long) i))

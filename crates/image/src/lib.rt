@@ -1,0 +1,267 @@
+// A stream's state in bytes that the caller lends: 864 of them, laid out in specs/Image.antt.
+use banks::Flat;
+use encoder::Encoder;
+use image_words::encoder_number;
+use image_words::encoder_of;
+use image_words::i2c_number;
+use image_words::i2c_of;
+use image_words::is_encoder;
+use image_words::is_i2c;
+use image_words::is_registers;
+use image_words::is_short;
+use image_words::pwm_of;
+use image_words::registers_number;
+use image_words::wave_number;
+use live::Stream;
+use pwm::Pwm;
+use wire::le64;
+use wire::put64;
+ghost use mathlib.Core.Path.{_≡_};
+ghost use mathlib.Core.Bool.{true};
+ghost use mathlib.Core.List.{_++_};
+ghost use Prim.Native.Nat.{_+_, _<_, _≤_};
+ghost use lib.ListN.{length, drop};
+ghost use lib.Seq.{sets};
+ghost use Rattle.wire.specs.Bytes.{byte};
+ghost use Rattle.codec.specs.Codec.{saveWord, okWord, saveMany, loadMany, okMany};
+ghost use Rattle.live.specs.How.{liveOf};
+ghost use Rattle.wire.specs.Bytes.{leBytes};
+ghost use Rattle.image_words.specs.Words.{i2cNumber, isEncoder, isRegisters};
+ghost use Rattle.image_words.specs.How.{lowNumber};
+ghost use Rattle.image.specs.Image.{size, headNumber, savePwm, imageOf, isRefusal, isHead, isCarried, isState};
+ghost use Rattle.image.specs.How.{withEncoders, withPwms, flatOf, okWave, okQuick, Loads, Saves};
+
+// ---- whether bytes are a state
+
+fn is_refusal(n: u64) -> bool
+    ensures { λ r. ⌜ r ≡ isRefusal n ⌝ }
+{
+    (n == 0) | (((7 <= n) & (n <= 11)) | ((n == 16) | (n == 18)))
+}
+
+fn is_head(refused: u64, held: u64, edition: u64) -> bool
+    ensures { λ r. ⌜ r ≡ isHead refused held edition ⌝ }
+{
+    ((1 <= edition) & (edition <= 4))
+        & (is_refusal(refused) & ((held < 16) & ((refused == 0) | (held == 0))))
+}
+
+// The carried bytes end before a place: those from there on are 0.
+fn are_carried(s: &[u8], end: usize) -> bool
+    requires { ⌜ size ≤ length (now s) ⌝ }
+    ensures { λ r. ⌜ r ≡ okMany 1 (isCarried end) 16 (now (s .entry)) 16 ⌝ }
+{
+    let mut all = true;
+    for i in 0..16 {
+        all = all & ((16 + i < end) | (s[16 + i] == 0));
+    }
+    all
+}
+
+fn are_encoders(s: &[u8]) -> bool
+    requires { ⌜ size ≤ length (now s) ⌝ }
+    ensures { λ r. ⌜ r ≡ okMany 8 (okWord isEncoder) 20 (now (s .entry)) 64 ⌝ }
+{
+    let mut all = true;
+    for i in 0..20 {
+        all = all & is_encoder(le64(s, 64 + 8 * i));
+    }
+    all
+}
+
+// The tests of a PWM channel are three loops: each is then few instructions.
+fn are_registers(s: &[u8]) -> bool
+    requires { ⌜ size ≤ length (now s) ⌝ }
+    ensures { λ r. ⌜ r ≡ okMany 16 (okWord isRegisters) 40 (now (s .entry)) 224 ⌝ }
+{
+    let mut all = true;
+    for i in 0..40 {
+        all = all & is_registers(le64(s, 224 + 16 * i));
+    }
+    all
+}
+
+fn are_waves(s: &[u8]) -> bool
+    requires { ⌜ size ≤ length (now s) ⌝ }
+    ensures { λ r. ⌜ r ≡ okMany 16 okWave 40 (now (s .entry)) 224 ⌝ }
+{
+    let mut all = true;
+    for i in 0..40 {
+        all = all & (le64(s, 232 + 16 * i) >> 24 < 2);
+    }
+    all
+}
+
+fn are_short(s: &[u8]) -> bool
+    requires { ⌜ size ≤ length (now s) ⌝ }
+    ensures { λ r. ⌜ r ≡ okMany 16 okQuick 40 (now (s .entry)) 224 ⌝ }
+{
+    let mut all = true;
+    for i in 0..40 {
+        all = all & is_short(le64(s, 224 + 16 * i), le64(s, 232 + 16 * i));
+    }
+    all
+}
+
+pub fn is_state(s: &[u8]) -> bool
+    ensures { λ r. ⌜ r ≡ isState (now (s .entry)) ⌝ }
+{
+    if s.len() < 864 {
+        return false;
+    }
+    let head = le64(s, 0);
+    let held = (head >> 8) % 256;
+    is_head(head % 256, held, head >> 16)
+        & (are_carried(s, 16 + held as usize)
+            & (((le64(s, 32) < 1099511627776) & (le64(s, 40) < 1099511627776))
+                & ((is_i2c(le64(s, 48)) & is_i2c(le64(s, 56)))
+                    & (are_encoders(s) & (are_registers(s) & (are_waves(s) & are_short(s)))))))
+}
+
+// ---- the stream in bytes that are a state
+
+fn load_encoders(s: &[u8], f: Flat) -> Flat
+    requires { ⌜ size ≤ length (now s) ⌝ }
+    ensures { λ r. ⌜ r ≡ withEncoders f (now (s .entry)) ⌝ }
+{
+    let mut g = f;
+    for i in 0..20 {
+        g.encoders[i] = encoder_of(le64(s, 64 + 8 * i));
+    }
+    g
+}
+
+fn load_pwms(s: &[u8], f: Flat) -> Flat
+    requires { ⌜ size ≤ length (now s) ⌝ }
+    ensures { λ r. ⌜ r ≡ withPwms f (now (s .entry)) ⌝ }
+{
+    let mut g = f;
+    for i in 0..40 {
+        g.pwms[i] = pwm_of(le64(s, 224 + 16 * i), le64(s, 232 + 16 * i));
+    }
+    g
+}
+
+fn load_flat(s: &[u8]) -> Flat
+    requires { ⌜ size ≤ length (now s) ⌝ }
+    ensures { λ r. ⌜ r ≡ flatOf (now (s .entry)) ⌝ }
+{
+    let e = Encoder::fresh();
+    let p = Pwm::fresh();
+    let a = i2c_of(le64(s, 48));
+    let b = i2c_of(le64(s, 56));
+    let f = Flat {
+        selects: [le64(s, 32), le64(s, 40)],
+        encoders: [e; 20],
+        pwms: [p; 40],
+        i2cs: [a, b],
+    };
+    load_pwms(s, load_encoders(s, f))
+}
+
+fn load_carried(s: &[u8]) -> [u8; 16]
+    requires { ⌜ size ≤ length (now s) ⌝ }
+    ensures { λ r. ⌜ r ≡ loadMany 1 byte 16 (now (s .entry)) 16 ⌝ }
+{
+    let mut a = [0u8; 16];
+    for i in 0..16 {
+        a[i] = s[16 + i];
+    }
+    a
+}
+
+pub fn load(s: &[u8]) -> Stream
+    requires { ⌜ isState (now s) ≡ true ⌝ }
+    ensures { λ r. ⌜ Loads (now (s .entry)) r ⌝ }
+{
+    let head = le64(s, 0);
+    Stream {
+        edition: head >> 16,
+        flat: load_flat(s),
+        carried: load_carried(s),
+        held: ((head >> 8) % 256) as usize,
+        applied: le64(s, 8),
+        refused: (head % 256) as u8,
+    }
+}
+
+// ---- a stream's image. Each function tells how long its array is, which the proof of `save` would not find again.
+
+fn head_number(refused: u8, held: usize, edition: u64) -> u64
+    requires { ⌜ (held < 16) × (edition < 5) ⌝ }
+    ensures { λ r. ⌜ r ≡ headNumber refused held edition ⌝ }
+{
+    refused as u64 + 256 * (held as u64) + 65536 * edition
+}
+
+fn save_carried(a: [u8; 16], out: &mut [u8])
+    requires { ⌜ size ≤ length (now out) ⌝ }
+    ensures { λ _. ⌜ now (out .exit) ≡ sets (now (out .entry)) 16 a ⌝ }
+    ensures { λ _. ⌜ length a ≡ 16 ⌝ }
+{
+    for i in 0..16 {
+        out[16 + i] = a[i];
+    }
+}
+
+// SELECT and the I2C of each bank.
+fn save_firsts(f: Flat, out: &mut [u8])
+    requires { ⌜ size ≤ length (now out) ⌝ }
+    ensures { λ _. ⌜ now (out .exit) ≡ sets (now (out .entry)) 32 (saveMany (leBytes 8) (f .selects) ++ saveMany (saveWord i2cNumber) (f .i2cs)) ⌝ }
+    ensures { λ _. ⌜ length (f .selects) ≡ 2 ⌝ }
+    ensures { λ _. ⌜ length (f .i2cs) ≡ 2 ⌝ }
+{
+    let a = f.i2cs[0];
+    let b = f.i2cs[1];
+    put64(out, 32, f.selects[0]);
+    put64(out, 40, f.selects[1]);
+    put64(out, 48, i2c_number(a));
+    put64(out, 56, i2c_number(b));
+}
+
+fn save_encoders(f: Flat, out: &mut [u8])
+    requires { ⌜ size ≤ length (now out) ⌝ }
+    ensures { λ _. ⌜ now (out .exit) ≡ sets (now (out .entry)) 64 (saveMany (saveWord lowNumber) (f .encoders)) ⌝ }
+    ensures { λ _. ⌜ length (f .encoders) ≡ 20 ⌝ }
+{
+    for i in 0..20 {
+        let e = f.encoders[i];
+        put64(out, 64 + 8 * i, encoder_number(e));
+    }
+}
+
+fn put_pwm(p: Pwm, at: usize, out: &mut [u8])
+    requires { ⌜ at + 16 ≤ length (now out) ⌝ }
+    ensures { λ _. ⌜ now (out .exit) ≡ sets (now (out .entry)) at (savePwm p) ⌝ }
+{
+    let g = p.registers;
+    let w = p.wave;
+    put64(out, at, registers_number(g));
+    put64(out, at + 8, wave_number(w));
+}
+
+fn save_pwms(f: Flat, out: &mut [u8])
+    requires { ⌜ size ≤ length (now out) ⌝ }
+    ensures { λ _. ⌜ now (out .exit) ≡ sets (now (out .entry)) 224 (saveMany savePwm (f .pwms)) ⌝ }
+    ensures { λ _. ⌜ length (f .pwms) ≡ 40 ⌝ }
+{
+    for i in 0..40 {
+        let p = f.pwms[i];
+        put_pwm(p, 224 + 16 * i, out);
+    }
+}
+
+pub fn save(x: Stream, out: &mut [u8])
+    requires { ⌜ size ≤ length (now out) ⌝ }
+    requires { ⌜ Saves x ⌝ }
+    ensures { λ _. ⌜ now (out .exit) ≡ imageOf (liveOf x) ++ drop size (now (out .entry)) ⌝ }
+{
+    let f = x.flat;
+    let carried = x.carried;
+    put64(out, 0, head_number(x.refused, x.held, x.edition));
+    put64(out, 8, x.applied);
+    save_carried(carried, out);
+    save_firsts(f, out);
+    save_encoders(f, out);
+    save_pwms(f, out);
+}
