@@ -34,6 +34,7 @@ enum rvz_refusal {
     RVZ_STOP_AFTER_ACK = 16,      /* GO with STOP alone after a byte that was received and acknowledged. */
     RVZ_WRONG_TRANSCRIPT = 17,    /* The transcript has not 8 bytes for each reading of the log. */
     RVZ_STEP_AND_DIRECTION = 18,  /* Edition 3: a write to an encoder's CNFG with MODE 1. */
+    RVZ_NO_STATE = 19,            /* The bytes are no state of a stream. */
     RVZ_NO_DUMP = 20              /* The text is no dump as rvz_dump writes them. */
 };
 
@@ -66,6 +67,37 @@ static inline uint64_t rvz_reading(const uint8_t *out, size_t index)
     for (i = 7; i >= 0; i--) value = value << 8 | out[8 * index + (size_t)i];
     return value;
 }
+
+/* ---- Streams: replay while the run goes on ---- */
+
+/* The bytes of a stream's state, which the caller lends: docs/STREAM.md has them field by field. They may be kept, copied and moved; a copy is a
+ * stream of its own. */
+enum { RVZ_STREAM_BYTES = 864 };
+
+/* Starts a stream of records of an edition, 1 to 4, in the first RVZ_STREAM_BYTES bytes at `state`, which has `state_len`; the rest stays. Refusals,
+ * with nothing written: 4 for an edition that there is none of, then 6 if `state_len` is too small. `state` may not be NULL. */
+uint64_t rvz_stream_start(uint64_t edition, uint8_t *state, size_t state_len);
+
+/* Takes the next `chunk_len` bytes of records, as many or few as have arrived: up to 15 bytes of an unfinished record are kept in the state. The
+ * records that the chunk finishes are replayed as rvz_replay does, and each read writes its 8 bytes into `out`; rvz_stream_readings(answer) tells
+ * how many, also where a record is refused. Refusals, in this order:
+ *   19      the bytes at `state` are no state. Nothing changes.
+ *   7 to 11, 16, 18   a record was refused, by this chunk (what the records before it did stays) or by an earlier one (nothing changes).
+ *   6       8 times the records that the chunk finishes and whose first byte is 2 exceed `out_len`. Nothing changes, nothing is remembered: give
+ *           the same chunk again with more room. 8 * (chunk_len / 16 + 1) bytes are always enough.
+ * However the records are cut, readings, state, applied number and first refusal are those of the whole. `state`, `chunk` and `out` may not
+ * overlap, and none may be NULL, even at length 0. */
+uint64_t rvz_stream_chunk(uint8_t *state, size_t state_len, const uint8_t *chunk, size_t chunk_len, uint8_t *out, size_t out_len);
+
+/* How many readings the chunk wrote (modulo 2^56, which 2^60 bytes of records would exceed). */
+static inline uint64_t rvz_stream_readings(uint64_t answer) { return answer >> 8; }
+
+/* Whether the stream may end here: a record's refusal, 5 if bytes of an unfinished record are left over, 19 if the bytes are no state, else RVZ_OK.
+ * It changes nothing, and a chunk may follow. */
+uint64_t rvz_stream_end(const uint8_t *state, size_t state_len);
+
+/* How many records were applied, modulo 2^64: the number itself, no refusal in it; 0 if the bytes are no state. */
+uint64_t rvz_stream_applied(const uint8_t *state, size_t state_len);
 
 /* ---- Transcripts ---- */
 

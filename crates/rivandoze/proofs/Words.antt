@@ -19,8 +19,9 @@ use Rattle.dump_read.specs.declared.Entries.{Entries}
 use Rattle.shrink.specs.Shrink.{smallerOf}
 use Rattle.shrink.proofs.Whole.{smaller-small}
 use Rattle.sign.specs.declared.Signed.{Signed}
-use Rattle.sign.specs.Sign.{Told, signOf, signedOf}
+use Rattle.sign.specs.Sign.{Told as Signs, signOf, signedOf}
 use Rattle.sign.proofs.Telling.{count-small}
+use Rattle.stream.specs.declared.Told.{Told}
 use Rattle.writer.specs.declared.Written.{Written}
 use Rattle.rivandoze.specs.Word.{refusalIn, Word, WordSettled}
 
@@ -54,8 +55,14 @@ module _ (w : ℕ) where
   pub entries-word : (d e : Entries) → d ≡ e → Word (d .refused) (d .count) w → Word (e .refused) (e .count) w
   entries-word d e q x = rw q at x
 
-  pub sign-word : (t : Told) (s : Signed) → s ≡ signedOf t → Word (s .refused) (s .count) w → Word (t .refused) (length (t .entries)) w
+  pub sign-word : (t : Signs) (s : Signed) → s ≡ signedOf t → Word (s .refused) (s .count) w → Word (t .refused) (length (t .entries)) w
   sign-word t s e x = rw e at x
+
+  pub chunk-word : (d e : Told) → d ≡ e → Word (d .refused) (d .readings % 2 ^ 56) w → Word (e .refused) (e .readings % 2 ^ 56) w
+  chunk-word d e q x = rw q at x
+
+  pub number-word : (k n : ℕ) → k ≡ n → Word k 0 w → Word n 0 w
+  number-word k n q x = rw q at x
 
   pub write-word : (d e : Written) → d ≡ e → Word (d .refused) (d .number % 2 ^ 56) w → Word (e .refused) (e .number % 2 ^ 56) w
   write-word d e q x = rw q at x

@@ -1,5 +1,5 @@
-// The calls on logs. Each answer is one number: the refusal in the low byte, 0 if none, and above it how many records were applied, how many
-// bytes were written, or how many stretches or entries there are.
+// The calls on logs and streams. Each answer is one number: the refusal in the low byte, 0 if none, and above it how many records were applied, how many
+// bytes were written, or how many stretches, entries or readings there are.
 ghost use Prim.Native.Nat.{_<_, _%_, _^_};
 ghost use mathlib.Core.Path.{_≡_};
 ghost use lib.ListN.{length};
@@ -12,6 +12,7 @@ ghost use Rattle.dump_read.specs.Reading.{readingOf, outputOf as entries-output
 ghost use Rattle.shrink.specs.Shrink.{smallerOf};
 ghost use Rattle.sign.specs.Sign.{signOf, signOutput};
 ghost use Rattle.writer.specs.Writer.{writtenOf, outputOf as write-output};
+ghost use Rattle.stream.specs.Stream.{startOf, startedIn, toldOf, keptIn, outputOf as stream-output, endIn, appliedIn};
 ghost use Rattle.rivandoze.specs.Word.{Word};
 
 fn word(refused: u8, number: usize) -> u64
@@ -79,4 +80,42 @@ pub extern "C" fn rvz_write(edition: u64, notes: &[u8], records: &[u8], out: &mu
 {
     let w = writer::write(edition, notes, records, out);
     word(w.refused, w.number % 72_057_594_037_927_936)
+}
+
+// ---- streams
+
+#[no_mangle]
+pub extern "C" fn rvz_stream_start(edition: u64, state: &mut [u8]) -> u64
+    ensures { λ r. ⌜ Word (startOf edition (length (now (state .entry)))) 0 r ⌝ }
+    ensures { λ _. ⌜ now (state .exit) ≡ startedIn edition (now (state .entry)) ⌝ }
+{
+    let refused = stream::start(edition, state);
+    word(refused, 0)
+}
+
+// How many readings this chunk wrote, of which 56 bits have room for those of less than 2^60 bytes.
+#[no_mangle]
+pub extern "C" fn rvz_stream_chunk(state: &mut [u8], chunk: &[u8], out: &mut [u8]) -> u64
+    ensures { λ r. ⌜ Word (toldOf (now (state .entry)) (now (chunk .entry)) (length (now (out .entry))) .refused) (toldOf (now (state .entry)) (now (chunk .entry)) (length (now (out .entry))) .readings % 2 ^ 56) r ⌝ }
+    ensures { λ _. ⌜ now (state .exit) ≡ keptIn (now (state .entry)) (now (chunk .entry)) (length (now (out .entry))) ⌝ }
+    ensures { λ _. ⌜ now (out .exit) ≡ stream-output (now (state .entry)) (now (chunk .entry)) (now (out .entry)) ⌝ }
+{
+    let t = stream::chunk(state, chunk, out);
+    word(t.refused, t.readings % 72_057_594_037_927_936)
+}
+
+#[no_mangle]
+pub extern "C" fn rvz_stream_end(state: &[u8]) -> u64
+    ensures { λ r. ⌜ Word (endIn (now (state .entry))) 0 r ⌝ }
+{
+    let refused = stream::end(state);
+    word(refused, 0)
+}
+
+// The applied number itself, with no refusal in it.
+#[no_mangle]
+pub extern "C" fn rvz_stream_applied(state: &[u8]) -> u64
+    ensures { λ r. ⌜ r ≡ appliedIn (now (state .entry)) ⌝ }
+{
+    stream::applied(state)
 }

@@ -1,0 +1,3 @@
+mod Keeping
+mod Ways
+pub mod Proved

@@ -1,0 +1,63 @@
+// A stream on bytes that the caller lends: the state is loaded, a chunk is taken, and the state is kept again.
+use edition::Edition;
+ghost use mathlib.Core.Path.{_≡_};
+ghost use lib.ListN.{length};
+ghost use Rattle.stream.specs.Stream.{startOf, startedIn, toldOf, keptIn, outputOf, endIn, appliedIn};
+
+// The refusal, 0 for none, and how many readings were written.
+pub struct Told {
+    pub refused: u8,
+    pub readings: usize,
+}
+
+pub fn start(edition: u64, state: &mut [u8]) -> u8
+    ensures { λ r. ⌜ r ≡ startOf edition (length (now (state .entry))) ⌝ }
+    ensures { λ _. ⌜ now (state .exit) ≡ startedIn edition (now (state .entry)) ⌝ }
+{
+    if !Edition::known(edition) {
+        return 4;
+    }
+    if state.len() < 864 {
+        return 6;
+    }
+    image::save(live::start(edition), state);
+    0
+}
+
+pub fn chunk(state: &mut [u8], bytes: &[u8], out: &mut [u8]) -> Told
+    ensures { λ r. ⌜ r ≡ toldOf (now (state .entry)) (now (bytes .entry)) (length (now (out .entry))) ⌝ }
+    ensures { λ _. ⌜ now (state .exit) ≡ keptIn (now (state .entry)) (now (bytes .entry)) (length (now (out .entry))) ⌝ }
+    ensures { λ _. ⌜ now (out .exit) ≡ outputOf (now (state .entry)) (now (bytes .entry)) (now (out .entry)) ⌝ }
+{
+    if !image::is_state(state) {
+        return Told {
+            refused: 19,
+            readings: 0,
+        };
+    }
+    let c = live::chunk(image::load(state), bytes, out);
+    let s = c.stream;
+    image::save(s, state);
+    Told {
+        refused: c.refused,
+        readings: c.readings,
+    }
+}
+
+pub fn end(state: &[u8]) -> u8
+    ensures { λ r. ⌜ r ≡ endIn (now (state .entry)) ⌝ }
+{
+    if !image::is_state(state) {
+        return 19;
+    }
+    live::end(image::load(state))
+}
+
+pub fn applied(state: &[u8]) -> u64
+    ensures { λ r. ⌜ r ≡ appliedIn (now (state .entry)) ⌝ }
+{
+    if !image::is_state(state) {
+        return 0;
+    }
+    wire::le64(state, 8)
+}
