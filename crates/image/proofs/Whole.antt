@@ -167,3 +167,7 @@ stream-saved x n o₀ o₁ o₂ o₃ o₄ o₅ o₆ s room pn p₁ p₂ p₃ lc 
     ∙ ap (λ (t : List ℕ). sets o₀ 0 (H ++ (leBytes 8 (x .applied) ++ (x .carried ++ t)))) (append-assoc S C (E ++ Q) ∙ ap (λ (t : List ℕ). S ++ (C ++ (t ++ Q))) (lows (f .encoders) (fits .encoders .1)))
     ∙ ap (sets o₀ 0) (sym (image-flat x s z lc))
     ∙ whole-image o₀ (imageOf (liveOf x)) (stream-lawful .long (liveOf x) (s .fits)) room
+
+-- what was loaded can be saved
+pub saves-loaded : (s : List ℕ) (x : Stream) → Bytes s → isState s ≡ true → Loads s x → Saves x
+saves-loaded s x b h l = record { fits = subst Fits (sym (l .live)) (loads-images s b h .fits); few = l .few; zeros = l .zeros }
