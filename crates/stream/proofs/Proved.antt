@@ -38,10 +38,10 @@ module _ (state bytes : List ℕ) (room : ℕ) (bs : Bytes state) (given : Bytes
 
   pub keeps-one : Kept state bytes room
   keeps-one = record {
-    state = ap isState is-kept ∙ saves-all after fits .state (drop size state);
+    still = ap isState is-kept ∙ saves-all after fits .state (drop size state);
     loads = ap loadOf is-kept ∙ saves-all after fits .back (drop size state);
-    rest = ap (drop size) is-kept ∙ drop-at (imageOf after) (drop size state) size (sym (saves-all after fits .long));
+    rest = ap (drop size) is-kept ∙ drop-at (imageOf after) (drop size state) size (saves-all after fits .long);
   }
 
 pub keeps : Keeps
-keeps state bytes room bs given yes = keeps-one state bytes room bs given yes
+keeps state bytes room bs given is = keeps-one state bytes room bs given is

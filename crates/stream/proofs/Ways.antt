@@ -5,8 +5,10 @@ use mathlib.Core.List.{List, [], _++_}
 use Prim.Native.Nat.{ℕ, _+_, _-_, _%_, _^_, _<_, _≤_}
 use native.Mathlib.Omega.{arith}
 use lib.Dec.{eqb, leb}
-use lib.ListN.{length, take, drop, replicate, length-drop, length-replicate}
+use lib.ListN.{length, getD, take, drop, replicate, length-drop, length-replicate}
 use borrow.Author.Tests.{le-leb, lt-leb, leb-true}
+use mir.Syntax.{w8}
+use mir.Val as val
 use Rattle.fold.specs.Output.{over}
 use Rattle.edition.specs.Edition.{known}
 use Rattle.wire.specs.Bytes.{leOf}
@@ -22,6 +24,13 @@ use Rattle.image.proofs.Proved.{passed, saves-all, loads-images}
 use Rattle.stream.specs.Stream.{startOf, startedIn, takenIn, toldOf, keptIn, outputOf, endIn, appliedIn}
 use Rattle.stream.specs.declared.Told.{Told}
 use Rattle.stream.proofs.Keeping.{fits-chunk, fits-fresh}
+
+-- a slice's elements are bytes, as the code knows it
+abbrev Held : List ℕ → Type 0
+Held s = (i : ℕ) → val.Fits w8 (getD s i 0)
+
+bytes-held : (s : List ℕ) → Held s → Bytes s
+bytes-held s h i = let f = h i in omega arith
 
 -- an image over what was there
 pub image-over : (l : Live) → Fits l → (state : List ℕ) → imageOf l ++ drop size state ≡ over (imageOf l) state
@@ -94,28 +103,28 @@ module _ (state : List ℕ) (t : Bool) (is : t ≡ isState state) where
     unfolding loadOf
     applied-told n e = rw (← is, yes) e
 
-    module _ (bs : Bytes state) (r : Stream) (loads : Loads state r) where
+    module _ (held : Held state) (r : Stream) (loads : Loads state r) where
       loaded : Loaded state
-      loaded = loads-images state bs is-state
+      loaded = loads-images state (bytes-held state held) is-state
 
-      fits : Fits (liveOf r)
-      fits = subst Fits (sym (loads .live)) (loaded .fits)
+      fits-in : Fits (liveOf r)
+      fits-in = subst Fits (sym (loads .live)) (loaded .fits)
 
       pub good : Good r
       good = record {
         whole = loads .whole;
         long = omega (arith, ap length (loads .zeros), length-drop (r .held) (r .carried), length-replicate {A = ℕ} (16 - r .held) 0, loads .few);
         few = loads .few;
-        small = fits .applied;
+        small = fits-in .applied;
         zeros = loads .zeros;
       }
 
       pub ends : (n : ℕ) → n ≡ endOf (liveOf r) → n ≡ endIn state
       ends n e = rw (← is, yes) (e ∙ ap endOf (loads .live))
 
-      module _ (bytes : List ℕ) (given : Bytes bytes) (room : ℕ) (c : Chunked) (comes : Comes (chunkOf (liveOf r) bytes room) c) where
+      module _ (bytes : List ℕ) (given : Held bytes) (room : ℕ) (c : Chunked) (comes : Comes (chunkOf (liveOf r) bytes room) c) where
         fits-on : Fits (liveOf (c .stream))
-        fits-on = subst Fits (sym (comes .live)) (fits-chunk (liveOf r) fits bytes given room)
+        fits-on = subst Fits (sym (comes .live)) (fits-chunk (liveOf r) fits-in bytes (bytes-held bytes given) room)
 
         pub saves : Good (c .stream) → Saves (c .stream)
         saves g = record { fits = fits-on; few = g .few; zeros = g .zeros }

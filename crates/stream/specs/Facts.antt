@@ -18,7 +18,7 @@ Starts = (edition : ℕ) (state : List ℕ) → known edition ≡ true → size 
 
 -- a state stays one, of the stream that the chunk comes to; the bytes behind it are as they were
 pub record Kept (state bytes : List ℕ) (room : ℕ) : Type 0 where
-  pub state : isState (keptIn state bytes room) ≡ true
+  pub still : isState (keptIn state bytes room) ≡ true
   pub loads : loadOf (keptIn state bytes room) ≡ takenIn state bytes room .live
   pub rest : drop size (keptIn state bytes room) ≡ drop size state
 

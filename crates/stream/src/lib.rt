@@ -14,14 +14,14 @@ pub fn start(edition: u64, state: &mut [u8]) -> u8
     ensures { λ r. ⌜ r ≡ startOf edition (length (now (state .entry))) ⌝ }
     ensures { λ _. ⌜ now (state .exit) ≡ startedIn edition (now (state .entry)) ⌝ }
 {
-    if !Edition::known(edition) {
-        return 4;
+    if Edition::known(edition) {
+        if state.len() < 864 {
+            return 6;
+        }
+        image::save(live::start(edition), state);
+        return 0;
     }
-    if state.len() < 864 {
-        return 6;
-    }
-    image::save(live::start(edition), state);
-    0
+    4
 }
 
 pub fn chunk(state: &mut [u8], bytes: &[u8], out: &mut [u8]) -> Told
@@ -29,35 +29,35 @@ pub fn chunk(state: &mut [u8], bytes: &[u8], out: &mut [u8]) -> Told
     ensures { λ _. ⌜ now (state .exit) ≡ keptIn (now (state .entry)) (now (bytes .entry)) (length (now (out .entry))) ⌝ }
     ensures { λ _. ⌜ now (out .exit) ≡ outputOf (now (state .entry)) (now (bytes .entry)) (now (out .entry)) ⌝ }
 {
-    if !image::is_state(state) {
+    if image::is_state(state) {
+        let c = live::chunk(image::load(state), bytes, out);
+        let s = c.stream;
+        image::save(s, state);
         return Told {
-            refused: 19,
-            readings: 0,
+            refused: c.refused,
+            readings: c.readings,
         };
     }
-    let c = live::chunk(image::load(state), bytes, out);
-    let s = c.stream;
-    image::save(s, state);
     Told {
-        refused: c.refused,
-        readings: c.readings,
+        refused: 19,
+        readings: 0,
     }
 }
 
 pub fn end(state: &[u8]) -> u8
     ensures { λ r. ⌜ r ≡ endIn (now (state .entry)) ⌝ }
 {
-    if !image::is_state(state) {
-        return 19;
+    if image::is_state(state) {
+        return live::end(image::load(state));
     }
-    live::end(image::load(state))
+    19
 }
 
 pub fn applied(state: &[u8]) -> u64
     ensures { λ r. ⌜ r ≡ appliedIn (now (state .entry)) ⌝ }
 {
-    if !image::is_state(state) {
-        return 0;
+    if image::is_state(state) {
+        return wire::le64(state, 8);
     }
-    wire::le64(state, 8)
+    0
 }
