@@ -441,6 +441,116 @@ write_usage() {
     same 'program: write with two files is the usage' "$usage" "$(rvz write 1 "$work/log" "$work/log" </dev/null)"
 }
 
+# streams NAME WANTED ARGUMENT..: one test of `rvz stream` on the records at hand, from a file.
+streams() {
+    same "program: stream, $1" "$2" "$(rvz stream "${@:3}" <"$work/records" 2>&1)"
+}
+
+stream_by_hand() {
+    printf 'write select 10\nwrite encoder 0 cnfg 1\npins encoder 0 0\npins encoder 0 1\nread encoder 0 cntr\n' | log_of
+    parts 0
+    streams 'the whole log of the paper' $'1\napplied 5 refused 0' 1
+    same 'program: stream, the same byte by byte' $'1\napplied 5 refused 0' "$(in_pieces 1 <"$work/records" | rvz stream 1)"
+    same 'program: stream, the same in pieces of 33 bytes' $'1\napplied 5 refused 0' "$(in_pieces 33 <"$work/records" | rvz stream 1)"
+    local edition word
+    for edition in 0 5 18446744073709551615; do
+        streams "edition $edition" 'applied 0 refused 4' "$edition"
+    done
+    for word in '' 1x -1 18446744073709551616; do
+        streams "the edition '$word'" 'EDITION is no decimal number from 0 to 18446744073709551615' "$word"
+    done
+    same 'program: stream, what is no number is said on standard error' '' "$(run64 target/bin/rvz stream x <"$work/records" 2>/dev/null)"
+    printf 123456789012345 >>"$work/records"
+    streams '15 bytes left over' $'1\napplied 5 refused 5' 1
+    printf 6 >>"$work/records"
+    streams 'a last record that is refused' $'1\napplied 5 refused 7' 1
+    printf 'left over' >>"$work/records"
+    streams 'a refused record with bytes behind it' $'1\napplied 5 refused 7' 1
+    : >"$work/records"
+    streams 'no record' 'applied 0 refused 0' 4
+    same 'program: stream, closed standard input' 'applied 0 refused 0' "$(rvz stream 1 <&-)"
+    printf 1 >"$work/records"
+    streams 'one byte' 'applied 0 refused 5' 1
+    same 'program: stream, a refused record ends an input without an end' 'applied 0 refused 7' "$(rvz stream 1 </dev/zero)"
+}
+
+# seen LINES: waits until so many lines are in the output, at most ten seconds.
+seen() {
+    local i
+    for i in {1..1000}; do
+        [ "$(wc -l <"$work/seen")" -lt "$1" ] || break
+        sleep 0.01
+    done
+    cat "$work/seen"
+}
+
+# A reading is there before the input ends, and before the next record.
+stream_at_once() {
+    printf 'write select 10\nread select\n' | log_of
+    parts 0
+    mkfifo "$work/pipe"
+    : >"$work/seen"
+    run64 target/bin/rvz stream 1 <"$work/pipe" >"$work/seen" &
+    exec 7>"$work/pipe"
+    cat "$work/records" >&7
+    same 'program: stream, a reading while the input is open' 10 "$(seen 1)"
+    head -c 20 "$work/records" >&7
+    tail -c 12 "$work/records" >&7
+    same 'program: stream, the next one' $'10\n10' "$(seen 2)"
+    exec 7>&-
+    wait $!
+    same 'program: stream, and its end' $'10\n10\napplied 4 refused 0' "$(cat "$work/seen")"
+}
+
+# More records than any log has, 10 MB of them, half of them reads; and a last one that is refused.
+stream_long() {
+    printf 'write select 10\nread select\n' | log_of
+    parts 0
+    local i
+    for i in {1..15}; do
+        cat "$work/records" "$work/records" >"$work/more" && mv "$work/more" "$work/records"
+    done
+    for i in {1..10}; do cat "$work/records"; done | rvz stream 2 >"$work/got"
+    { yes 10 | head -n 327680; echo 'applied 655360 refused 0'; } >"$work/wanted"
+    cmp -s "$work/wanted" "$work/got"
+    same 'program: stream, 10 MB of records' 0 $?
+    head -c 16 /dev/zero | cat "$work/records" - >"$work/more"
+    same 'program: stream, 65,536 records and a refused one' 'applied 65536 refused 7' "$(rvz stream 2 <"$work/more" | tail -n 1)"
+}
+
+# Logs by chance: the records, some in pieces, are replayed as their log is.
+stream_by_chance() {
+    local i most made=0 refused edition
+    most=$(cases 60)
+    for ((i = 1; i <= most; i++)); do
+        "$second" generate $((seed + i)) 2047 4294967295 20 >"$work/log"
+        rvz <"$work/log" >"$work/wanted"
+        refused=$(sed -n 's/^applied .* refused //p' "$work/wanted")
+        [ "$refused" -eq 0 ] || [ "$refused" -ge 7 ] || continue
+        edition=$(tail -c 4 "$work/log" | od -An -t u2 -N2 | xargs)
+        parts $(($(stat -c %s "$work/log") - 8 - $(tail -c 8 "$work/log" | od -An -t u4 -N4)))
+        if [ $((i % 6)) -eq 0 ]; then
+            in_pieces $((1000 + 37 * i)) <"$work/records" | rvz stream "$edition" >"$work/got"
+        else
+            rvz stream "$edition" <"$work/records" >"$work/got"
+        fi
+        made=$((made + 1))
+        cmp -s "$work/wanted" "$work/got" && continue
+        same "program: stream, made log $((seed + i))" "$(tail -n 1 "$work/wanted")" "$(tail -n 1 "$work/got") or other readings"
+        return
+    done
+    [ "$made" -gt 0 ]
+    same "program: stream, $made made logs" 0 $?
+}
+
+stream_usage() {
+    local usage
+    usage=$(rvz help </dev/null)
+    same 'program: the usage names stream' 1 "$(grep -c '^ *rvz stream ' <<<"$usage")"
+    same 'program: stream without an edition is the usage' "$usage" "$(rvz stream </dev/null)"
+    same 'program: stream with a second word is the usage' "$usage" "$(rvz stream 1 2 </dev/null)"
+}
+
 judged() {
     judge_by_hand
     judge_by_chance
@@ -454,9 +564,17 @@ written() {
     write_usage
 }
 
+streamed() {
+    stream_by_hand
+    stream_at_once
+    stream_long
+    stream_by_chance
+    stream_usage
+}
+
 build
 echo "seed $seed"
-for tests in by_hand by_length by_chance shrink_by_hand shrink_by_chance sign_by_hand sign_by_chance judged written; do
+for tests in by_hand by_length by_chance shrink_by_hand shrink_by_chance sign_by_hand sign_by_chance judged written streamed; do
     beside $tests
 done
 told

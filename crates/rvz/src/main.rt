@@ -1,7 +1,7 @@
 // With no argument it replays the log on standard input; the first argument asks for something else. It has no exit status to give, so all it
 // has to say goes to standard output, but for the refusal of a dump, of a smaller log or of records: built in one buffer by a crate for
-// each command, every byte promised, and written at once. What is read and written no contract can say: the functions here, which talk to the
-// system, promise how many bytes there are, and no more.
+// each command, every byte promised, and written at once; the readings of a stream are written before, as they come. What is read and
+// written no contract can say: the functions here, which talk to the system, promise how many bytes there are, and no more.
 use decimal::Decimal;
 use libc::STDERR_FILENO;
 use libc::STDOUT_FILENO;
@@ -20,6 +20,7 @@ enum Command {
     Sign,
     Judge,
     Write,
+    Stream,
     Rate,
     Version,
     Help,
@@ -57,6 +58,9 @@ fn asked(word: &[u8], words: usize) -> Command {
         if check::same(word, b"judge") {
             return Command::Judge;
         }
+        if check::same(word, b"stream") {
+            return Command::Stream;
+        }
         return Command::Help;
     }
     if words == 4 {
@@ -91,6 +95,7 @@ fn usage(text: &mut [u8]) -> usize
        rvz pwm-rate CHOICE X    the rate of a PWM pair: '40000000 P', a fraction, or 'refused R'
        rvz spi-rate CHOICE X    the rate of an SPI pair
        rvz write EDITION [FILE] a log of the records on standard input, behind the notes in FILE, or 'refused R' on standard error
+       rvz stream EDITION       replays records on standard input while they arrive, with no trailer
        rvz version, rvz help
 RATE is in millihertz, thousandths of a hertz: 40125 is 40.125 Hz. TOL is in millionths of RATE
 ",
@@ -136,6 +141,7 @@ fn print(text: &mut [u8], command: Command) -> Printed
         Command::Sign => plain(sign_print::sign_input(text)),
         Command::Judge => plain(judge_print::judge_input(text)),
         Command::Write => write_print::write_input(text),
+        Command::Stream => stream_print::stream_input(text),
         Command::Rate => plain(rate(text)),
         Command::Version => plain(text::put_word(text, 0, b"rvz 1.0.0\n")),
         Command::Help => plain(usage(text)),

@@ -18,7 +18,7 @@ unfolding leOf
 le-below zero s at b = omega arith
 le-below (suc n) s at b = rw (pow-succ' 256 n) (omega (arith, b at, le-below n s (suc at) b))
 
-lines-below : (n : ℕ) (s : List ℕ) → Bytes s → length (linesOf (numbersIn n s)) ≤ 21 * n
+pub lines-below : (n : ℕ) (s : List ℕ) → Bytes s → length (linesOf (numbersIn n s)) ≤ 21 * n
 unfolding linesOf numbersIn
 lines-below zero s b = omega arith
 lines-below (suc n) s b =

@@ -66,7 +66,8 @@ fn put_reading(out: &mut [u8], at: usize, readings: &[u8], i: usize) -> usize
     put_line(out, at, b"", wire::le64(readings, 8 * i))
 }
 
-fn put_readings(out: &mut [u8], readings: &[u8]) -> usize
+// Each reading on its own line.
+pub fn put_readings(out: &mut [u8], readings: &[u8]) -> usize
     ensures { λ r. ⌜ Put (now (out .entry)) 0 (linesOf (readingsIn (now (readings .entry)))) (now (out .exit)) r ⌝ }
 {
     let n = readings.len() / 8;
