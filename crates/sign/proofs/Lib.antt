@@ -1,6 +1,5 @@
 pub mod Verdicts
 pub mod Counted
-pub mod Bytes
 pub mod Pieces
 pub mod Applied
 pub mod Entries
@@ -9,6 +8,10 @@ pub mod Lines
 pub mod Listing
 pub mod Tracks
 pub mod Kept
+pub mod Fine
+pub mod Adding
+pub mod Settling
+pub mod Bytes
 pub mod Going
 pub mod Telling
 pub mod Proved

@@ -1,5 +1,4 @@
 pub mod Words
 pub mod Spelt
-pub mod Fine
 pub mod Room
 pub mod Saying

@@ -15,8 +15,8 @@ use Rattle.shaft.specs.Shaft.{forward, backward, still}
 use Rattle.text.specs.Text.{line, stopText, appliedWord, refusedWord}
 use Rattle.sign.specs.Sign.{Entry, Verdict, settled, unsettled, verdictOf}
 use Rattle.sign.specs.Facts.{Each}
+use Rattle.sign.proofs.Fine.{Fine}
 use Rattle.sign_print.specs.Said.{bankWord, encoderWord, recordsWord, toWord, comma, pinWord, stepWord, doubleWord, travelWord, openWord, shortWord, plural, counted, signed, stepsText, placeText, sumsText, travelText, verdictText, stretchText}
-use Rattle.sign_print.proofs.Spelt.{Small}
 
 four : (n : ℕ) → n < 10000 → length (digitsOf n) ≤ 4
 four n h = few-digits n 3 (omega arith)
@@ -86,7 +86,7 @@ verdict-long unsettled size d h =
     let n = 2 * d + 1 - size in
     omega (arith, length-append (openWord ++ counted n stepWord) shortWord, length-append openWord (counted n stepWord), counted-long n stepWord (omega arith))
 
-line-long : (e : Entry) → Small e → length (stretchText e) ≤ 146
+line-long : (e : Entry) → Fine e → length (stretchText e) ≤ 146
 unfolding stretchText
 line-long e x =
     let s = e .steps in
@@ -101,7 +101,7 @@ line-long e x =
     let w : length v ≤ 39 = verdict-long (verdictOf s d) (natAbs s) d (x .doubles) in
     omega (arith, length-append (a ++ b ++ t ++ v) (10 ∷ []), length-append (a ++ b ++ t) v, length-append (a ++ b) t, length-append a b)
 
-pub lines-long : (es : List Entry) → Each Small es → length (concat (map stretchText es)) ≤ 146 * length es
+pub lines-long : (es : List Entry) → Each Fine es → length (concat (map stretchText es)) ≤ 146 * length es
 unfolding concat
 lines-long [] h = omega arith
 lines-long (e ∷ es) h = omega (arith, length-append (stretchText e) (concat (map stretchText es)), line-long e (h .0), lines-long es (h .1))

@@ -3,29 +3,29 @@ use mathlib.Core.Path.{_≡_, refl, sym, ap, _∙_}
 use mathlib.Core.List.{List, [], _∷_, _++_, map}
 use Prim.Native.Nat.{ℕ, _+_, _-_, _*_, _^_, _<_, _≤_}
 use native.Mathlib.Omega.{arith}
-use mathlib.Core.Bool.{Bool, true, false, cond}
-use lib.Dec.{eqb, leb}
+use mathlib.Core.Bool.{true}
+use lib.Dec.{leb}
 use lib.ListN.{length, length-append, take}
 use lib.Seq.{take-all, length-take-le}
 use borrow.Author.Tests.{le-leb}
 use Rattle.io.specs.Counts.{Counts}
 use Rattle.decimal.specs.Put.{Put}
 use Rattle.decimal.proofs.Puts.{put-nothing, put-then, put-long}
-use Rattle.fold.specs.Run.{concat, tally}
+use Rattle.fold.specs.Run.{concat}
 use Rattle.fold.specs.Output.{numberOf, stopOf}
 use Rattle.fold.specs.declared.Stop.{Stop}
 use Rattle.replay.specs.Replay.{replayOf}
 use Rattle.text.specs.Text.{stopText}
-use Rattle.wire.specs.Bytes.{byte}
 use Rattle.wire.specs.Trailer.{recordsOf}
 use Rattle.wire.proofs.Laws.{few-records}
 use Rattle.sign.specs.Sign.{stretchesOf, listing, pinsRecords, signOf, signedOf, signOutput}
 use Rattle.sign.specs.declared.Signed.{Signed}
+use Rattle.sign.proofs.Fine.{log-fine}
+use Rattle.sign.proofs.Listing.{pins-few}
 use Rattle.sign.proofs.Telling.{count-small}
 use Rattle.sign_print.specs.Said.{stretchText, stretchesText, endText, signText}
 use Rattle.sign_print.specs.How.{speltAt, There, Entries}
 use Rattle.sign_print.proofs.Spelt.{entry-there, one-more}
-use Rattle.sign_print.proofs.Fine.{all-small}
 use Rattle.sign_print.proofs.Room.{lines-long, stop-long}
 
 -- what stands in the text after the first i entries
@@ -36,17 +36,8 @@ pub record Saying (log entries text₀ : List ℕ) (n : ℕ) (text : List ℕ) (
 
 -- ---- 65,504 bytes have room for every entry
 
-pins-at-most : (rs : List (List ℕ)) → pinsRecords rs ≤ length rs
-unfolding tally
-pins-at-most [] = omega arith
-pins-at-most (r ∷ rs) = omega (arith, pins-at-most rs, by (eqb (byte r 0) 3))
-  where
-    by : (t : Bool) → cond {A = ℕ} t 1 0 ≤ 1
-    by true = omega arith
-    by false = omega arith
-
 roomy : (log : List ℕ) (room : ℕ) → room ≡ 65_504 → leb (32 * pinsRecords (recordsOf log)) room ≡ true
-roomy log room e = le-leb (32 * pinsRecords (recordsOf log)) room (omega (arith, pins-at-most (recordsOf log), few-records log))
+roomy log room e = le-leb (32 * pinsRecords (recordsOf log)) room (omega (arith, pins-few (recordsOf log), few-records log))
 
 few-stretches : (log : List ℕ) → length (stretchesOf log) < 2048
 unfolding signOf
@@ -74,13 +65,13 @@ module _ (log entries text₀ : List ℕ) (n : ℕ) (text : List ℕ) (end i : �
 
   module _ (h : i < n) where
     pub here : There entries (32 * i)
-    here = entry-there (stretchesOf log) (all-small log) (s .there .out) entries (s .there .listed) i (omega (arith, s .there .all))
+    here = entry-there (stretchesOf log) (log-fine log) (s .there .out) entries (s .there .listed) i (omega (arith, s .there .all))
 
     pub next : (text′ : List ℕ) (end′ : ℕ) → Put text end (speltAt entries (32 * i)) text′ end′ → Saying log entries text₀ n text′ end′ (i + 1)
     next text′ end′ x = record {
       within = omega arith;
       there = s .there;
-      said = rw (one-more (stretchesOf log) (all-small log) (s .there .out) entries (s .there .listed) i (omega (arith, s .there .all))) (put-then text₀ text text′ _ _ 0 end end′ (s .said) x);
+      said = rw (one-more (stretchesOf log) (log-fine log) (s .there .out) entries (s .there .listed) i (omega (arith, s .there .all))) (put-then text₀ text text′ _ _ 0 end end′ (s .said) x);
     }
 
   pub all-said : n ≤ i → Put text₀ 0 (stretchesText log) text end
@@ -100,7 +91,7 @@ module _ (log : List ℕ) (room : ℕ) (stop : Stop) (is : stop ≡ stopOf (repl
 
 pub text-long : (log : List ℕ) → length (endText log) ≤ 58 → length (signText log) ≤ 298_920
 unfolding stretchesText
-text-long log h = omega (arith, length-append (stretchesText log) (endText log), lines-long (stretchesOf log) (all-small log), few-stretches log)
+text-long log h = omega (arith, length-append (stretchesText log) (endText log), lines-long (stretchesOf log) (log-fine log), few-stretches log)
 
 pub put-counts : (a b s : List ℕ) (n : ℕ) → Put a 0 s b n → Counts n b
 put-counts a b s n x =

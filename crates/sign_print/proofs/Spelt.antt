@@ -14,30 +14,17 @@ use Rattle.fold.specs.Output.{over}
 use Rattle.shaft.specs.Shaft.{forward, backward, still}
 use Rattle.text.specs.Text.{line}
 use Rattle.wire.specs.Bytes.{leOf, leBytes}
-use Rattle.wire.proofs.Numbers.{le-behind, le-bytes}
 use Rattle.sign.specs.Sign.{Entry, entryBytes, listing, complement, Verdict, settled, unsettled, verdictOf, verdictNumber}
 use Rattle.sign.specs.Facts.{Each}
-use Rattle.sign.proofs.Listing.{length-concat, entry-long}
+use Rattle.sign.proofs.Fine.{Fine}
+use Rattle.sign.proofs.Counted.{below}
+use Rattle.sign.proofs.Listing.{length-concat, concat-more, entry-long}
+use Rattle.sign.proofs.Adding.{eight}
+use Rattle.sign.proofs.Settling.{few-verdicts, each-at}
 use Rattle.sign_print.specs.Said.{placeText, sumsText, travelText, verdictText, stretchText}
 use Rattle.sign_print.specs.How.{aheadOf, backOf, openText, numberedText, foundText, speltBy, spelt, speltAt, There}
 
--- a log's entries have small numbers
-pub record Small (e : Entry) : Type 0 where
-  pub bank : e .bank < 2
-  pub encoder : e .encoder < 10
-  pub first : e .first < 2048
-  pub last : e .last < 2048
-  pub number : e .number < 2048
-  pub steps : natAbs (e .steps) < 2048
-  pub doubles : e .doubles < 2048
-
 -- ---- an entry's four numbers
-
-few-verdicts : (v : Verdict) → verdictNumber v < 4
-few-verdicts (settled forward) = omega arith
-few-verdicts (settled backward) = omega arith
-few-verdicts (settled still) = omega arith
-few-verdicts unsettled = omega arith
 
 numbered : (v : Verdict) (size d : ℕ) → numberedText (verdictNumber v) size d ≡ verdictText v size d
 unfolding numberedText openText
@@ -58,16 +45,12 @@ whole (negsuc n) h =
     let g : suc n - 1 ≡ n = omega arith in
     rw (e, le-ltb (18446744073709551615 - n) 9223372036854775808 (omega arith), f, lt-ltb 0 (suc n) (omega arith), g)
 
-complement-below : (z : ℤ) → complement z < 18446744073709551616
-complement-below (pos n) = omega arith
-complement-below (negsuc n) = omega arith
-
 spelt-by : (n x b i v f l m d : ℕ) (s : ℤ) → n % 256 ≡ b → n / 256 % 256 ≡ i → n / 65536 % 256 ≡ v → n / 4294967296 ≡ f → x % 4294967296 ≡ l → x / 4294967296 ≡ m
     → speltBy n x s d ≡ line (placeText b i f l ++ sumsText m s d ++ (travelText s d ++ numberedText v (natAbs s) d))
 unfolding speltBy foundText
 spelt-by n x b i v f l m d s eb ei ev ef el em = rw (eb, ei, ev, ef, el, em)
 
-module _ (e : Entry) (small : Small e) where
+module _ (e : Entry) (small : Fine e) where
   abbrev verdict : Verdict
   verdict = verdictOf (e .steps) (e .doubles)
 
@@ -88,13 +71,6 @@ module _ (e : Entry) (small : Small e) where
 
   -- behind other bytes
   module _ (a rest : List ℕ) (at : ℕ) (is : at ≡ length a) where
-    eight : (v : ℕ) (front behind : List ℕ) → v < 18446744073709551616 → leOf 8 (a ++ (front ++ (leBytes 8 v ++ behind))) (at + length front) ≡ v
-    eight v front behind h =
-        rw (is, ← add-zero (length front))
-        (le-behind 8 a (front ++ (leBytes 8 v ++ behind)) (length front + 0)
-        ∙ le-behind 8 front (leBytes 8 v ++ behind) 0
-        ∙ le-bytes 8 v behind h)
-
     w1 : List ℕ
     w1 = leBytes 8 names
 
@@ -107,16 +83,16 @@ module _ (e : Entry) (small : Small e) where
 
     last : leOf 8 (a ++ (entryBytes e ++ rest)) (at + 24) ≡ e .doubles
     unfolding entryBytes w1 w2 w3
-    last = eight (e .doubles) w3 rest (omega (arith, small .doubles))
+    last = eight a w3 rest at (e .doubles) is (omega (arith, small .doubles))
 
     spelt-there : speltAt (a ++ (entryBytes e ++ rest)) at ≡ stretchText e
     unfolding entryBytes w1 w2 w3
     spelt-there =
         let v = few-verdicts verdict in
         let z : at + 0 ≡ at = add-zero at in
-        let p : leOf 8 (a ++ (entryBytes e ++ rest)) (at + 0) ≡ names = eight names [] _ (omega arith) in
-        let q : leOf 8 (a ++ (entryBytes e ++ rest)) (at + 8) ≡ span = eight span w1 _ (omega arith) in
-        let r : leOf 8 (a ++ (entryBytes e ++ rest)) (at + 16) ≡ complement (e .steps) = eight (complement (e .steps)) w2 _ (complement-below (e .steps)) in
+        let p : leOf 8 (a ++ (entryBytes e ++ rest)) (at + 0) ≡ names = eight a [] _ at names is (omega arith) in
+        let q : leOf 8 (a ++ (entryBytes e ++ rest)) (at + 8) ≡ span = eight a w1 _ at span is (omega arith) in
+        let r : leOf 8 (a ++ (entryBytes e ++ rest)) (at + 16) ≡ complement (e .steps) = eight a w2 _ at (complement (e .steps)) is (below (e .steps)) in
         ap (λ (n : ℕ). spelt n (leOf 8 (a ++ (entryBytes e ++ rest)) (at + 8)) (leOf 8 (a ++ (entryBytes e ++ rest)) (at + 16)) (leOf 8 (a ++ (entryBytes e ++ rest)) (at + 24))) (sym (ap (leOf 8 (a ++ (entryBytes e ++ rest))) z) ∙ p)
         ∙ ap (λ (n : ℕ). spelt names n (leOf 8 (a ++ (entryBytes e ++ rest)) (at + 16)) (leOf 8 (a ++ (entryBytes e ++ rest)) (at + 24))) q
         ∙ ap (λ (n : ℕ). spelt names span n (leOf 8 (a ++ (entryBytes e ++ rest)) (at + 24))) r
@@ -128,17 +104,12 @@ module _ (e : Entry) (small : Small e) where
 none : Entry
 none = record { bank = 0; encoder = 0; first = 0; last = 0; number = 0; steps = pos 0; doubles = 0 }
 
-each-at : {A : Type 0} (P : A → Type 0) (d : A) (xs : List A) (i : ℕ) → Each P xs → i < length xs → P (getD xs i d)
-each-at P d [] i h l = absurd (omega arith)
-each-at P d (x ∷ xs) zero h l = h .0
-each-at P d (x ∷ xs) (suc i) h l = each-at P d xs i (h .1) (omega arith)
-
-concat-more : (f : Entry → List ℕ) (es fs : List Entry) → concat (map f (es ++ fs)) ≡ concat (map f es) ++ concat (map f fs)
+text-more : (es fs : List Entry) → concat (map stretchText (es ++ fs)) ≡ concat (map stretchText es) ++ concat (map stretchText fs)
 unfolding concat
-concat-more f [] fs = refl
-concat-more f (e ∷ es) fs = ap (λ (l : List ℕ). f e ++ l) (concat-more f es fs) ∙ sym (append-assoc (f e) (concat (map f es)) (concat (map f fs)))
+text-more [] fs = refl
+text-more (e ∷ es) fs = ap (λ (l : List ℕ). stretchText e ++ l) (text-more es fs) ∙ sym (append-assoc (stretchText e) (concat (map stretchText es)) (concat (map stretchText fs)))
 
-module _ (es : List Entry) (small : Each Small es) (out s : List ℕ) (is : s ≡ listing es out) (i : ℕ) (h : i < length es) where
+module _ (es : List Entry) (small : Each Fine es) (out s : List ℕ) (is : s ≡ listing es out) (i : ℕ) (h : i < length es) where
   abbrev e : Entry
   e = getD es i none
 
@@ -152,7 +123,7 @@ module _ (es : List Entry) (small : Each Small es) (out s : List ℕ) (is : s �
   unfolding concat
   one =
       ap (λ (l : List Entry). concat (map entryBytes l)) (split-at es i none h)
-      ∙ concat-more entryBytes (take i es) (e ∷ drop (suc i) es)
+      ∙ concat-more entryBytes entry-long (take i es) (e ∷ drop (suc i) es)
 
   stands : s ≡ front ++ (entryBytes e ++ behind)
   unfolding listing over
@@ -163,17 +134,17 @@ module _ (es : List Entry) (small : Each Small es) (out s : List ℕ) (is : s �
       ∙ ap (λ (l : List ℕ). front ++ l) (append-assoc (entryBytes e) (concat (map entryBytes (drop (suc i) es))) (drop (length (concat (map entryBytes es))) out))
 
   place : 32 * i ≡ length front
-  place = omega (arith, length-concat (take i es), length-take-le i es (omega arith))
+  place = omega (arith, length-concat entryBytes entry-long (take i es), length-take-le i es (omega arith))
 
   pub entry-there : There s (32 * i)
   entry-there = record {
     within = omega (arith, place, ap length stands, length-append front (entryBytes e ++ behind), length-append (entryBytes e) behind, entry-long e);
-    doubles = rw stands (rw (last e (each-at Small none es i small h) front behind (32 * i) place) (omega (arith, each-at Small none es i small h .doubles)));
+    doubles = rw stands (rw (last e (each-at Fine none es i small h) front behind (32 * i) place) (omega (arith, each-at Fine none es i small h .doubles)));
   }
 
   pub one-more : concat (map stretchText (take (i + 1) es)) ≡ concat (map stretchText (take i es)) ++ speltAt s (32 * i)
   unfolding concat
   one-more =
       rw (add-one i, take-suc es i none h)
-      (concat-more stretchText (take i es) (e ∷ [])
-      ∙ ap (λ (l : List ℕ). concat (map stretchText (take i es)) ++ l) (append-nil (stretchText e) ∙ sym (spelt-there e (each-at Small none es i small h) front behind (32 * i) place) ∙ ap (λ (l : List ℕ). speltAt l (32 * i)) (sym stands)))
+      (text-more (take i es) (e ∷ [])
+      ∙ ap (λ (l : List ℕ). concat (map stretchText (take i es)) ++ l) (append-nil (stretchText e) ∙ sym (spelt-there e (each-at Fine none es i small h) front behind (32 * i) place) ∙ ap (λ (l : List ℕ). speltAt l (32 * i)) (sym stands)))
