@@ -8,13 +8,11 @@ cd "$(dirname "$0")/.." || exit 2
 work=$(mktemp -d)
 trap 'rm -rf "$work"' EXIT
 
-# The most instructions of the library for a record that is written. The goal is twice the second program's: 96.
-written=1330
-# The most times as many of the library as it takes to replay the same log, where a call does more with it than that. The goals are 1.30 for
-# the judge, 1.50 for the sign and 2.50 for shrinking. The judge of nothing but reads does not meet its goal yet, and the sign neither.
+# The most instructions of the library for a record that is written. The goal is twice the second program's, which takes 31 to 34.
+written=42
+# The most times as many of the library as it takes to replay the same log, where a call does more with it than that: the goals.
 judged=1.30
-judged_reads=1.38
-signed=2.30
+signed=1.50
 shrunk=2.50
 dumped=2.00
 streamed=1.30
@@ -22,27 +20,27 @@ streamed=1.30
 stream_call=7000
 
 # A row, the most instructions that the second program may take, the most that the library may, and the most times its replay's.
-limits="pins of one encoder|100|86
-pins of ten encoders|100|86
-pins, changing bank|100|86
-reads|70|60
-reads, changing bank|70|60
-a mix, waits to 20 ticks|100|95
-a mix, waits of any length|100|90
-a mix over both banks|110|102
+limits="pins of one encoder|100|88
+pins of ten encoders|100|88
+pins, changing bank|100|88
+reads|70|62
+reads, changing bank|70|62
+a mix, waits to 20 ticks|100|97
+a mix, waits of any length|100|92
+a mix over both banks|110|104
 waits only, 20 PWM channels|950|940
 waits only, 40 PWM channels|1650|1630
-reads, judged|80|80|$judged_reads
-a mix, waits to 20 ticks, judged|100|105|$judged
+reads, judged|80|76|$judged
+a mix, waits to 20 ticks, judged|100|100|$judged
 the finder, a request|80|58
 pins, changing bank, dumped|150|171|$dumped
 a mix over both banks, dumped|130|153|$dumped
-pins, changing bank, signed|135|196|$signed
-a mix over both banks, signed|125|162|$signed
-pins, changing bank, written|55|$written
-a mix over both banks, written|58|$written
-pins, a third as before, shrunk|115|173|$shrunk
-a mix over both banks, shrunk|130|218|$shrunk"
+pins, changing bank, signed|135|132|$signed
+a mix over both banks, signed|125|150|$signed
+pins, changing bank, written|42|$written
+a mix over both banks, written|44|$written
+pins, a third as before, shrunk|115|108|$shrunk
+a mix over both banks, shrunk|130|132|$shrunk"
 if has_stream; then
     limits+="
 pins, changing bank, streamed|100|112|$streamed

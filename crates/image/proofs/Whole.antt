@@ -33,7 +33,8 @@ use Rattle.image.proofs.Flats.{laidOut, flat-back, state-loaded, lists-
 use Rattle.image.proofs.Pads.{filled, zeros-past}
 use Rattle.image.proofs.Steps.{pwms-tested}
 use Rattle.image.proofs.Lawful.{head-small, stream-lawful}
-use Rattle.image.proofs.Proved.{passed, loads-same, loads-images}
+use Rattle.image.proofs.Passing.{passed, loads-same}
+use Rattle.image.proofs.Proved.{loads-images}
 
 -- ---- the test
 

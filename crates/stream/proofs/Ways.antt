@@ -20,7 +20,8 @@ use Rattle.codec.specs.Codec.{Bytes}
 use Rattle.image.specs.Image.{size, imageOf, loadOf, isState, Fits}
 use Rattle.image.specs.How.{Loads, Saves}
 use Rattle.image.specs.Facts.{Loaded}
-use Rattle.image.proofs.Proved.{passed, saves-all, loads-images}
+use Rattle.image.proofs.Passing.{passed}
+use Rattle.image.proofs.Proved.{saves-all, loads-images}
 use Rattle.stream.specs.Stream.{startOf, startedIn, takenIn, toldOf, keptIn, outputOf, endIn, appliedIn}
 use Rattle.stream.specs.declared.Told.{Told}
 use Rattle.stream.proofs.Keeping.{fits-chunk, fits-fresh}
