@@ -8,6 +8,7 @@ need cargo cargo
 need clang clang
 need make make
 need pkg-config pkg-config
+need mandoc mandoc
 work=$(mktemp -d)
 trap 'rm -rf "$work"' EXIT
 seed=${SEED:-$(date +%s)}
@@ -24,7 +25,7 @@ build() {
     must 'examples: the library builds' rt_builds
     must 'examples: the second program builds' second_builds
     local name
-    for name in scan verdict archive record folder; do
+    for name in scan verdict archive record folder live; do
         must "examples: $name.c is C99 by gcc" $cc "${strict[@]}" -Iinclude -o "$work/$name" "examples/$name.c" target/staticlib/librivandoze.a
         must "examples: $name.c is C99 by clang" "${clang[@]}" "${strict[@]}" -Iinclude -o "$work/$name-clang" "examples/$name.c" target/staticlib/librivandoze.a
         must "examples: $name.c and the header are C++ by g++" g++ "${cxx[@]}" "examples/$name.c"
@@ -160,6 +161,41 @@ folders() {
     same 'examples: folder without a file' '2 usage: folder [-t] FILE..' "$? $(cat "$work/out")"
 }
 
+# streams LIVE NAME LOG: the log's records through a pipe, in pieces, come to what the program says of the log.
+streams() {
+    local size distance edition
+    size=$(stat -c %s "$3")
+    [ "$size" -ge 8 ] || return 0
+    distance=$(od -An -t u4 -j $((size - 8)) -N 4 "$3")
+    edition=$(od -An -t u2 -j $((size - 4)) -N 2 "$3")
+    [ "$distance" -le $((size - 8)) ] || return 0
+    same "$2" "$(run64 target/bin/rvz <"$3")" \
+        "$(tail -c +$((size - 7 - distance)) "$3" | head -c "$distance" | dd bs=7 status=none | run64 "$1" "$((edition))")"
+}
+
+live() {
+    local log name
+    for log in examples/logs/*.log; do
+        name=$(basename "$log" .log)
+        [[ $name != refused-[345] ]] || continue
+        streams "$work/live" "examples: live, by gcc, of $name" "$log"
+        streams "$work/live-clang" "examples: live, by clang, of $name" "$log"
+    done
+    same 'examples: live, bytes left over' 'applied 0 refused 5 status 1' "$(printf '\1\0' | run64 "$work/live" 1) status $?"
+    same 'examples: live, no such edition' 'applied 0 refused 4 status 1' "$(run64 "$work/live" 5 </dev/null) status $?"
+    run64 "$work/live" 2>"$work/out" </dev/null
+    same 'examples: live without an edition' '2 usage: live EDITION <records' "$? $(cat "$work/out")"
+}
+
+manual() {
+    must 'examples: the manual page is sound' mandoc -T lint -W warning docs/rvz.1
+    local command
+    for command in judge sign dump shrink write stream pwm spi pwm-rate spi-rate help version; do
+        same "examples: the manual page and the usage name $command" '1 1' \
+            "$(mandoc -T ascii docs/rvz.1 | col -b | grep -qw -- "$command" && echo 1) $(run64 target/bin/rvz help </dev/null | grep -qw -- "$command" && echo 1)"
+    done
+}
+
 other_files() {
     head -c 32769 /dev/zero >"$work/long"
     same 'examples: scan of a log that is too long' 'the log is refused by 1: the log is longer than 32,768 bytes' \
@@ -179,8 +215,14 @@ build_installed() {
 
 installed() {
     must 'examples: make install' make --no-print-directory install PREFIX="$work/usr"
-    same 'examples: what is installed' 'bin/rvz include/rivandoze.h lib/librivandoze.a lib/pkgconfig/rivandoze.pc' \
+    same 'examples: what is installed' \
+        'bin/rvz include/rivandoze.h lib/librivandoze.a lib/librivandoze.so.1 lib/pkgconfig/rivandoze.pc share/man/man1/rvz.1' \
         "$(cd "$work/usr" && find . -type f | sed 's|^\./||' | sort | xargs)"
+    same 'examples: the version stands in one place' "rvz $(sed -n 's/^Version: //p' "$work/usr/lib/pkgconfig/rivandoze.pc")" \
+        "$(run64 "$work/usr/bin/rvz" version </dev/null)"
+    same 'examples: the shared library has the calls of the header and no other' \
+        "$(grep -o '^uint64_t rvz_[a-z_]*' include/rivandoze.h | cut -d ' ' -f 2 | sort | xargs)" \
+        "$(nm -D --defined-only "$work/usr/lib/librivandoze.so.1" | awk '{ print $3 }' | sort | xargs)"
     must 'examples: scan.c builds against the installed files' build_installed
     scans "$work/installed" 'examples: scan, installed, of turns' examples/logs/turns.log
     scans "$work/installed" 'examples: scan, installed, of refused-9' examples/logs/refused-9.log
@@ -220,6 +262,8 @@ transcripts
 archives
 recorded
 folders
+live
+manual
 other_files
 installed
 readme
