@@ -24,8 +24,8 @@ a mix, waits to 20 ticks, judged|100|99
 the finder, a request|80|58
 pins, changing bank, dumped|150|171
 a mix over both banks, dumped|130|153
-pins, changing bank, signed|135|191
-a mix over both banks, signed|125|160'
+pins, changing bank, signed|135|140
+a mix over both banks, signed|125|135'
 
 # The mix again: the most times as many instructions of the library when it is judged as when it is replayed.
 judged_by_replayed=1.30
