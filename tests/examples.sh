@@ -187,6 +187,29 @@ live() {
     same 'examples: live without an edition' '2 usage: live EDITION <records' "$? $(cat "$work/out")"
 }
 
+# docs/WALK.md: each command in a folder of its own, and what it prints against the lines below it.
+walked() {
+    local root=$PWD line command='' wanted='' rvz64="${runner[*]} target/bin/rvz"
+    mkdir "$work/walk"
+    ln -s "$root/target" "$work/walk/target"
+    step() {
+        [ -z "$command" ] || same "examples: the walk's ${command:0:60}" "$wanted" "$(cd "$work/walk" && bash -c "${command//target\/bin\/rvz/$rvz64}" 2>&1)"
+    }
+    while IFS= read -r line; do
+        case $line in
+        '    $ '*)
+            step
+            command=${line#    $ } wanted=''
+            ;;
+        '    '*) wanted+=${wanted:+$'\n'}${line#    } ;;
+        *)
+            step
+            command=''
+            ;;
+        esac
+    done < <(cat docs/WALK.md; echo)
+}
+
 manual() {
     must 'examples: the manual page is sound' mandoc -T lint -W warning docs/rvz.1
     local command
@@ -263,6 +286,7 @@ archives
 recorded
 folders
 live
+walked
 manual
 other_files
 installed
