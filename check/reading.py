@@ -34,7 +34,7 @@ class File:
             bare = line.split(" -- ")[0] if not line.strip().startswith("--") else ""
             if not bare.strip():
                 continue
-            if bare.startswith(("use ", "pub mod", "mod ")):
+            if bare.startswith(("use ", "pub mod ", "mod ")):
                 self.use(bare.rstrip(";"))
                 continue
             indent = len(bare) - len(bare.lstrip())

@@ -59,19 +59,30 @@ static void print_verdict(uint64_t answer, const uint8_t *log, size_t log_len, c
     }
 }
 
-/* The stretches of the records that are applied. A double change may have been two steps either way, so the travel is a range. */
-static void print_settled(const uint8_t *log, size_t log_len) {
+static const char *plus(int64_t n) { return n > 0 ? "+" : ""; }
+static const char *plural(int64_t n) { return n == 1 ? "" : "s"; }
+
+/* The stretches of the records that are applied, in the words of `rvz sign`. A double change may have been two steps either way, so the travel is
+ * a range; more steps than 2d settle its direction. */
+static void print_stretch(const uint8_t *out, size_t i) {
     static const char *const words[] = {"open", "forward", "backward", "still"};
+    int64_t steps = rvz_stretch_steps(out, i), size = steps < 0 ? -steps : steps;
+    int64_t pins = (int64_t)rvz_stretch_pins(out, i), doubles = (int64_t)rvz_stretch_doubles(out, i);
+    int64_t least = steps - 2 * doubles, most = steps + 2 * doubles, wanting = 2 * doubles + 1 - size;
+    unsigned direction = rvz_stretch_direction(out, i);
+    printf("bank %u encoder %u: records %" PRIu64 " to %" PRIu64 ", %" PRId64 " pin%s", rvz_stretch_bank(out, i), rvz_stretch_encoder(out, i),
+           rvz_stretch_first(out, i), rvz_stretch_last(out, i), pins, plural(pins));
+    printf(", %s%" PRId64 " step%s, %" PRId64 " double change%s", plus(steps), steps, plural(size), doubles, plural(doubles));
+    printf(", travel %s%" PRId64 " to %s%" PRId64 ": %s", plus(least), least, plus(most), most, words[direction]);
+    if (direction == RVZ_OPEN) printf(", %" PRId64 " step%s short of a direction", wanting, plural(wanting));
+    putchar('\n');
+}
+
+static void print_settled(const uint8_t *log, size_t log_len) {
     static uint8_t out[RVZ_SIGN_BYTES];
     uint64_t count = rvz_stretches(rvz_sign(log, log_len, out, sizeof out));
     size_t i;
-    for (i = 0; i < count; i++) {
-        int64_t steps = rvz_stretch_steps(out, i), doubles = (int64_t)rvz_stretch_doubles(out, i);
-        printf("bank %u encoder %u: records %" PRIu64 " to %" PRIu64 ", pins %" PRIu64 ", steps %" PRId64 ", double changes %" PRId64 ": %s",
-               rvz_stretch_bank(out, i), rvz_stretch_encoder(out, i), rvz_stretch_first(out, i), rvz_stretch_last(out, i),
-               rvz_stretch_pins(out, i), steps, doubles, words[rvz_stretch_direction(out, i)]);
-        printf(", travel from %" PRId64 " to %" PRId64 "\n", steps - 2 * doubles, steps + 2 * doubles);
-    }
+    for (i = 0; i < count; i++) print_stretch(out, i);
 }
 
 int main(int argc, char **argv) {

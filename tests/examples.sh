@@ -53,6 +53,24 @@ samples() {
     done
 }
 
+# settled LOG: the lines of `rvz sign` for its stretches, which end what `verdict` prints.
+settled() {
+    run64 target/bin/rvz sign <"$1" | grep -v '^applied '
+}
+
+# stretches LOG: what `verdict` prints behind its first line; stretches_of FUNCTION: that of made logs, one after the other.
+stretches() {
+    run64 "$work/verdict" "$1" /dev/null | tail -n +2
+}
+
+stretches_of() {
+    local i
+    for ((i = 1; i <= $(cases 20); i++)); do
+        "$second" generate $((seed + i)) 2047 20 5 >"$work/log"
+        "$1" "$work/log"
+    done
+}
+
 # The sample transcripts, each named by its log and its verdict: what `verdict` prints of it against the file beside it, and the program's
 # verdict. The right ones have the second program's readings.
 transcripts() {
@@ -60,18 +78,19 @@ transcripts() {
     for transcript in examples/transcripts/*.bin; do
         name=$(basename "$transcript" .bin)
         log=examples/logs/${name%-*}.log
-        same "examples: verdict of $name" "$(cat "${transcript%.bin}.out" "${log%.log}.sign") status 0" "$(run64 "$work/verdict" "$log" "$transcript") status $?"
+        same "examples: verdict of $name" "$(cat "${transcript%.bin}.out"; settled "$log") status 0" "$(run64 "$work/verdict" "$log" "$transcript") status $?"
         same "examples: rvz judge of $name" "${name#*-}" "$(run64 target/bin/rvz judge "$transcript" <"$log" | cut -d ' ' -f 1)"
         [[ $name == *-same || $name == *-both ]] || continue
         same "examples: $name has the second program's readings" "$("$second" <"$log" | grep -v applied | xargs)" \
             "$(od -An -v -t u8 -w8 --endian=little "$transcript" | xargs)"
     done
-    same 'examples: verdict of two transcripts' "$(cat examples/transcripts/turns-{same,negated}.out examples/logs/turns.sign)" \
+    same 'examples: verdict of two transcripts' "$(cat examples/transcripts/turns-{same,negated}.out; settled examples/logs/turns.log)" \
         "$(run64 "$work/verdict-clang" examples/logs/turns.log examples/transcripts/turns-{same,negated}.bin)"
     same 'examples: verdict of a transcript of another log' \
         "examples/transcripts/whole-same.bin: refused by 17: it has not 8 bytes for each reading of the log
-$(cat examples/logs/turns.sign) status 1" \
+$(settled examples/logs/turns.log) status 1" \
         "$(run64 "$work/verdict" examples/logs/turns.log examples/transcripts/whole-same.bin) status $?"
+    same 'examples: verdict has the words of rvz sign for made logs' "$(stretches_of settled)" "$(stretches_of stretches)"
     same 'examples: verdict by a log that is refused' \
         "examples/transcripts/whole-same.bin: refused by 9, which is the log's own refusal status 1" \
         "$(run64 "$work/verdict" examples/logs/refused-9.log examples/transcripts/whole-same.bin) status $?"

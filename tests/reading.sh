@@ -10,7 +10,7 @@ need python3 python3
 must 'reading: no promise rests on how the code gets there' python3 check/reading.py
 sed 's/^/    /' "$work/out"
 lines=$(sed -n 's/^ *\([0-9]*\) lines, for .*/\1/p' "$work/out")
-most=1802
+most=1806
 if [ "$lines" -le "$most" ]; then
     echo "ok reading: at most $most lines"
 else
@@ -18,14 +18,27 @@ else
     failed=1
 fi
 
-# What the script must see: a contract that rests on a How, and a name that is nowhere.
-cp -r --parents crates check/reading.py "$work"
+# The rows of docs/READING.md: every name in them is in the tree.
+must 'reading: every name in the rows of docs/READING.md is in the tree' python3 check/rows.py
+sed 's/^/    /' "$work/out"
+
+# What the scripts must see: a contract that rests on a How, and a name that is nowhere; in the rows a name, a theorem, a test and a sentence that
+# are not there, and a function that promises nothing.
+cp -r --parents crates check docs tests include "$work"
+# planted PATTERN SED FILE [SCRIPT]: the script tells of it.
 planted() {
-    sed -i "$2" "$work/$3" && ! (cd "$work" && python3 check/reading.py) | grep -q "$1" && return 1
+    sed -i "$2" "$work/$3" && ! (cd "$work" && python3 "${4:-check/reading.py}") | grep -q "$1" && return 1
     cp "$3" "$work/$3"
 }
 must 'reading: a definition of How.antt is seen' planted 'rests on how the code gets there' \
     's/^playOf e rs room = .*/playOf e rs room = refusalOf/; s/^use Rattle.banks.specs.State.{fresh}/&\nuse Rattle.bank.specs.How.{refusalOf}/' crates/replay/specs/Replay.antt
 must 'reading: a name that is nowhere is seen' planted 'not found' \
     's/use Rattle.replay.specs.Replay.{replayOf}/use Rattle.replay.specs.Replay.{replayOf, nowhere}/; s/≡ written (replayOf/≡ nowhere (replayOf/' crates/rivandoze/src/logs.rt
+rows=check/rows.py
+must 'reading: a row with a wrong name is seen' planted 'not found: onPin$' 's/`onPins`/`onPin`/' docs/READING.md $rows
+must 'reading: a row whose definition is gone is seen' planted 'not found: place$' 's/^abbrev pub place :/abbrev pub moved :/' crates/encoder/specs/Encoder.antt $rows
+must 'reading: a row whose theorem is not proved is seen' planted 'Held is not proved' 's/^pub held : Held/pub held : Type 0/' crates/encoder/proofs/Proved.antt $rows
+must 'reading: a row whose test is gone is seen' planted 'tests/program.sh has no seven bytes' 's/seven bytes/7 bytes/' tests/program.sh $rows
+must 'reading: a sentence without a row is seen' planted 'no sentence 01 pwm 6' '/^| 6 | writing CS/d' docs/READING.md $rows
+must 'reading: a public function without a contract is seen' planted 'fresh has no contract' '/^    ensures { λ r. ⌜ r ≡ fresh ⌝ }/d' crates/bank/src/lib.rt $rows
 exit $failed
