@@ -1,7 +1,8 @@
 /* Rivandoze for C and C++: numbers and byte slices only.
  *
- * Every answer is one uint64_t. Its low byte is the refusal, RVZ_OK (0) if there is none; unless a call says otherwise, the rest is 0
- * when it is refused. The calls keep no state, never fail in another way, and may be made from any thread. Link librivandoze.a. */
+ * Every answer is one uint64_t. Its low byte is the refusal, RVZ_OK (0) if there is none (rvz_stream_applied alone has none in it); unless a call
+ * says otherwise, the rest is 0 when it is refused. The calls keep no state, never fail in another way, and may be made from any thread. Link
+ * librivandoze.a, or the shared library. */
 #ifndef RIVANDOZE_H
 #define RIVANDOZE_H
 
@@ -13,15 +14,16 @@ extern "C" {
 #endif
 
 /* The refusals of papers 01 and 02. 1 to 11, 16 and 18 come from a replay, 12 to 15 from the rate calls, 17 and a log's own from the judge, 6
- * and a log's own from the sign, the dump and from shrinking, 6 and 20 from the dump's reader, 1 and 4 to 8 from the writer. */
+ * and a log's own from the sign, the dump and from shrinking, 6 and 20 from the dump's reader, 1 and 4 to 8 from the writer, 4 to 11, 16, 18 and 19
+ * from a stream. */
 enum rvz_refusal {
     RVZ_OK = 0,                   /* Nothing is refused. */
     RVZ_LOG_TOO_LONG = 1,         /* The log is longer than 32,768 bytes. */
     RVZ_LOG_TOO_SHORT = 2,        /* The log is shorter than its 8-byte trailer. */
     RVZ_WRONG_MARK = 3,           /* The trailer does not end in the mark 51 4D. */
-    RVZ_WRONG_EDITION = 4,        /* The trailer's edition is none of 1 to 4. */
-    RVZ_WRONG_DISTANCE = 5,       /* The trailer's distance is no multiple of 16, or reaches back before the log; records to write likewise. */
-    RVZ_OUTPUT_TOO_SHORT = 6,     /* The output has no room: less than 8 bytes for each read, or for the whole dump, its entries, the stretches or the log. */
+    RVZ_WRONG_EDITION = 4,        /* The edition, in the trailer or given, is none of 1 to 4. */
+    RVZ_WRONG_DISTANCE = 5,       /* The trailer's distance is no multiple of 16, or reaches back before the log; records to write, or a stream, end within a record. */
+    RVZ_OUTPUT_TOO_SHORT = 6,     /* The output has no room: less than 8 bytes for each read, or for the whole dump, its entries, the stretches, the log or a state. */
     RVZ_NO_SUCH_RECORD = 7,       /* The record names no kind, block, channel, register or access, or a byte that must be 0 is not. */
     RVZ_VALUE_OUT_OF_RANGE = 8,   /* The value is outside the range of its register or record. */
     RVZ_NOT_ROUTED = 9,           /* The record writes to, or moves the pins of, a channel that is not routed. */
@@ -35,7 +37,7 @@ enum rvz_refusal {
     RVZ_WRONG_TRANSCRIPT = 17,    /* The transcript has not 8 bytes for each reading of the log. */
     RVZ_STEP_AND_DIRECTION = 18,  /* Edition 3: a write to an encoder's CNFG with MODE 1. */
     RVZ_NO_STATE = 19,            /* The bytes are no state of a stream. */
-    RVZ_NO_DUMP = 20              /* The text is no dump as rvz_dump writes them. */
+    RVZ_NO_DUMP = 20              /* The text is not in the form of docs/WAVEFORM.md. */
 };
 
 /* The refusal of any answer, RVZ_OK (0) if none. */
@@ -204,7 +206,7 @@ static inline uint64_t rvz_dump_length(uint64_t answer) { return answer >> 8; }
 
 /* Reads a dump of `text_len` bytes at `text` back: for each time at which something changed, and each encoder that changed at it, an entry
  * of RVZ_ENTRY_BYTES bytes in `out` with the pins as they stand after all changes at that time; by time, then bank, then encoder. No
- * other byte of `out` changes. Refusals: 20 for any text that is not just as rvz_dump writes it, then 6 if the entries do not fit; nothing
+ * other byte of `out` changes. Refusals: 20 for any text that is not in the form of docs/WAVEFORM.md, then 6 if the entries do not fit; nothing
  * is written in these. `text` and `out` may not overlap, and neither may be NULL, even at length 0. */
 uint64_t rvz_dump_read(const uint8_t *text, size_t text_len, uint8_t *out, size_t out_len);
 
