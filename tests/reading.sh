@@ -18,8 +18,8 @@ else
     failed=1
 fi
 
-# The rows of docs/READING.md: every name in them is in the tree.
-must 'reading: every name in the rows of docs/READING.md is in the tree' python3 check/rows.py
+# The rows of docs/READING.md: every name in them is in the tree; and what one of them says of public functions.
+must 'reading: every name in the rows of docs/READING.md is in the tree, and every public function has a contract' python3 check/rows.py
 sed 's/^/    /' "$work/out"
 
 # What the scripts must see: a contract that rests on a How, and a name that is nowhere; in the rows a name, a theorem, a test and a sentence that
