@@ -14,13 +14,15 @@ use Rattle.vcd.specs.declared.Step.{Step}
 use Rattle.vcd.specs.declared.Step.the-variants.{Wait, Pins}
 use Rattle.vcd.specs.declared.Line.{Line}
 use Rattle.vcd.specs.declared.Line.the-variants.{Fixed, Var, Unknown, Time, Change, Other}
-use Rattle.vcd.specs.Dump.{declared, startOf, wiresFrom, headerOf, changeOf, changesOf, timed, bodyFrom, dumpOf, GoodStep, Good}
+use Rattle.vcd.specs.Dump.{declared, startOf, wiresFrom, headerOf, changeOf, changesOf, timed, bodyFrom, dumpOf, Good}
 use Rattle.vcd.specs.Entries.{entriesAt, entriesFrom}
-use Rattle.vcd.specs.Reader.{pinOf}
+use Rattle.vcd.specs.How.{pinOf}
 use Rattle.vcd.specs.Facts.{timesIn, valuesOf, Rises, Alternates, Shown, AllShown, Page}
 use Rattle.vcd.proofs.Starts.{Fresh, fresh-start, long-start}
 use Rattle.vcd.proofs.Heart.{no-change}
-use Rattle.vcd.proofs.Bound.{short-dump, read-back}
+use Rattle.vcd.proofs.Bound.{in-time, short-dump}
+use Rattle.vcd.proofs.Sound.{regroup}
+use Rattle.vcd.proofs.Readings.{back-dump}
 
 -- ---- lists of lines in a row
 
@@ -88,26 +90,17 @@ unfolding timesIn valuesOf
 unknown-plain w = (refl, λ wire. refl)
 
 module _ (pins : List ℕ) (ls : List Line) where
-  abbrev second : List Line
-  second = Fixed 2 ∷ Fixed 3 ∷ Fixed 4 ∷ (wiresFrom Unknown 0 pins ++ Fixed 5 ∷ [])
-
-  regroup : headerOf pins ++ ls ≡ Fixed 0 ∷ Fixed 1 ∷ (wiresFrom Var 0 pins ++ Fixed 2 ∷ Fixed 3 ∷ Fixed 4 ∷ (wiresFrom Unknown 0 pins ++ Fixed 5 ∷ ls))
-  regroup =
-      ap (λ (ms : List Line). Fixed 0 ∷ Fixed 1 ∷ ms)
-      (append-assoc (wiresFrom Var 0 pins) second ls
-      ∙ ap (λ (ms : List Line). wiresFrom Var 0 pins ++ Fixed 2 ∷ Fixed 3 ∷ Fixed 4 ∷ ms) (append-assoc (wiresFrom Unknown 0 pins) (Fixed 5 ∷ []) ls))
-
-  header-times : timesIn (headerOf pins ++ ls) ≡ timesIn ls
+  header-times : timesIn (headerOf pins pins ++ ls) ≡ timesIn ls
   unfolding timesIn
   header-times =
-      ap timesIn regroup
+      ap timesIn (regroup pins pins ls)
       ∙ no-times Var var-plain pins 0 (Fixed 2 ∷ Fixed 3 ∷ Fixed 4 ∷ (wiresFrom Unknown 0 pins ++ Fixed 5 ∷ ls))
       ∙ no-times Unknown unknown-plain pins 0 (Fixed 5 ∷ ls)
 
-  header-values : (wire : ℕ) → valuesOf wire (headerOf pins ++ ls) ≡ valuesOf wire ls
+  header-values : (wire : ℕ) → valuesOf wire (headerOf pins pins ++ ls) ≡ valuesOf wire ls
   unfolding valuesOf
   header-values wire =
-      ap (valuesOf wire) regroup
+      ap (valuesOf wire) (regroup pins pins ls)
       ∙ no-values Var var-plain wire pins 0 (Fixed 2 ∷ Fixed 3 ∷ Fixed 4 ∷ (wiresFrom Unknown 0 pins ++ Fixed 5 ∷ ls))
       ∙ no-values Unknown unknown-plain wire pins 0 (Fixed 5 ∷ ls)
 
@@ -136,9 +129,6 @@ timed-values wire true now (l ∷ ls) = refl
 timed-values wire false now (l ∷ ls) = refl
 
 -- ---- the times
-
-abbrev Early : ℕ → List Step → Type 0
-Early now ss = now + 107374182400 * length ss < 2 ^ 48
 
 below : (k j : ℕ) (ts : List ℕ) → k ≤ j → Rises j ts → Rises k ts
 below k j [] h r = tt
@@ -182,17 +172,17 @@ module _ (e v now k : ℕ) (pins : List ℕ) (ss : List Step) (small : v < 4) (e
       by false q true h = other-rises true h
       by false q false h = other-rises false h
 
-body-rises : (ss : List Step) (told : Bool) (now k : ℕ) (pins : List ℕ) → Good ss → Early now ss → k ≤ now + cond told 1 0 → Rises k (timesIn (bodyFrom told now pins ss))
+body-rises : (ss : List Step) (told : Bool) (now k : ℕ) (pins : List ℕ) → Good (2 ^ 48) now ss → k ≤ now + cond told 1 0 → Rises k (timesIn (bodyFrom told now pins ss))
 unfolding bodyFrom timesIn
-body-rises [] told now k pins g s h = tt
-body-rises (Wait t ∷ ss) told now k pins g s h = body-rises ss (told && eqb t 0) (now + 25 * t) k pins (g .1) (omega (arith, g .0)) (go told (eqb t 0) refl h)
+body-rises [] told now k pins g h = tt
+body-rises (Wait t ∷ ss) told now k pins g h = body-rises ss (told && eqb t 0) (now + 25 * t) k pins g (go told (eqb t 0) refl h)
   where
     go : (told x : Bool) → eqb t 0 ≡ x → k ≤ now + cond told 1 0 → k ≤ now + 25 * t + cond (told && x) 1 0
     go true true q h = omega arith
     go true false q h = let n = eqb-false t 0 q in omega arith
     go false x q h = omega arith
-body-rises (Pins e v ∷ ss) told now k pins g s h =
-    pins-rises e v now k pins ss (g .0 .1) (omega arith) (λ j b. body-rises ss b now j (set pins e v) (g .1) (omega arith)) told h
+body-rises (Pins e v ∷ ss) told now k pins g h =
+    pins-rises e v now k pins ss (g .1) (in-time ss (2 ^ 48) now (g .2)) (λ j b. body-rises ss b now j (set pins e v) (g .2)) told h
 
 -- ---- the values of a wire
 
@@ -270,15 +260,15 @@ module _ (wire e v : ℕ) (pins : List ℕ) (vs : List ℕ) (small : v < 4) (in-
       by true false h k = let n = eqb-false (wire % 2) 0 k in on-b (omega (arith, eqb-true (wire / 2) e h))
       by false y h k = on-other (eqb-false (wire / 2) e h)
 
-body-alternates : (wire : ℕ) (ss : List Step) (told : Bool) (now : ℕ) (pins : List ℕ) → Good ss → length pins ≡ 20 → Alternates (valueIn pins wire) (valuesOf wire (bodyFrom told now pins ss))
+body-alternates : (wire : ℕ) (ss : List Step) (told : Bool) (now : ℕ) (pins : List ℕ) (end : ℕ) → Good end now ss → length pins ≡ 20 → Alternates (valueIn pins wire) (valuesOf wire (bodyFrom told now pins ss))
 unfolding bodyFrom valuesOf
-body-alternates wire [] told now pins g l = tt
-body-alternates wire (Wait t ∷ ss) told now pins g l = body-alternates wire ss (told && eqb t 0) (now + 25 * t) pins (g .1) l
-body-alternates wire (Pins e v ∷ ss) told now pins g l =
+body-alternates wire [] told now pins end g l = tt
+body-alternates wire (Wait t ∷ ss) told now pins end g l = body-alternates wire ss (told && eqb t 0) (now + 25 * t) pins end g l
+body-alternates wire (Pins e v ∷ ss) told now pins end g l =
     let p = getD pins e 0 in
     let rest = bodyFrom (told || not (eqb p v)) now (set pins e v) ss in
     rw (values-append wire (timed told now (changesOf e p v)) rest, timed-values wire told now (changesOf e p v))
-    (pins-alternates wire e v pins (valuesOf wire rest) (g .0 .1) (omega (arith, g .0 .0)) (body-alternates wire ss (told || not (eqb p v)) now (set pins e v) (g .1) (length-set pins e v ∙ l)))
+    (pins-alternates wire e v pins (valuesOf wire rest) (g .1) (omega (arith, g .0)) (body-alternates wire ss (told || not (eqb p v)) now (set pins e v) end (g .2) (length-set pins e v ∙ l)))
 
 -- ---- the whole
 
@@ -288,20 +278,20 @@ fresh-value [] i w f h = absurd (omega arith)
 fresh-value (x ∷ pins) zero w f h = rw (le-ltb x 4 (f .0 .0))
 fresh-value (x ∷ pins) (suc i) w f h = fresh-value pins i w (f .1) (omega arith)
 
-no-pins : (wire : ℕ) (ss : List Step) (told : Bool) (now : ℕ) (pins : List ℕ) → Good ss → 40 ≤ wire → valuesOf wire (bodyFrom told now pins ss) ≡ []
+no-pins : (wire : ℕ) (ss : List Step) (told : Bool) (now : ℕ) (pins : List ℕ) (end : ℕ) → Good end now ss → 40 ≤ wire → valuesOf wire (bodyFrom told now pins ss) ≡ []
 unfolding bodyFrom valuesOf
-no-pins wire [] told now pins g h = refl
-no-pins wire (Wait t ∷ ss) told now pins g h = no-pins wire ss (told && eqb t 0) (now + 25 * t) pins (g .1) h
-no-pins wire (Pins e v ∷ ss) told now pins g h =
+no-pins wire [] told now pins end g h = refl
+no-pins wire (Wait t ∷ ss) told now pins end g h = no-pins wire ss (told && eqb t 0) (now + 25 * t) pins end g h
+no-pins wire (Pins e v ∷ ss) told now pins end g h =
     let p = getD pins e 0 in
     let rest = bodyFrom (told || not (eqb p v)) now (set pins e v) ss in
-    rw (values-append wire (timed told now (changesOf e p v)) rest, timed-values wire told now (changesOf e p v), values-change wire e p v, ne-eqb (2 * e) wire (omega (arith, g .0 .0)), ne-eqb (2 * e + 1) wire (omega (arith, g .0 .0)), none-if (sameA wire e p v), none-if (sameB wire e p v))
-    (no-pins wire ss (told || not (eqb p v)) now (set pins e v) (g .1) h)
+    rw (values-append wire (timed told now (changesOf e p v)) rest, timed-values wire told now (changesOf e p v), values-change wire e p v, ne-eqb (2 * e) wire (omega (arith, g .0)), ne-eqb (2 * e + 1) wire (omega (arith, g .0)), none-if (sameA wire e p v), none-if (sameB wire e p v))
+    (no-pins wire ss (told || not (eqb p v)) now (set pins e v) end (g .2) h)
 
-module _ (steps : List Step) (good : Good steps) (few : length steps ≤ 2047) where
+module _ (steps : List Step) (good : Good (2 ^ 48) 0 steps) (few : length steps ≤ 2047) where
   all-rise : Rises 0 (timesIn (dumpOf steps))
   unfolding dumpOf
-  all-rise = rw (header-times (startOf steps) (bodyFrom false 0 (startOf steps) steps)) (body-rises steps false 0 0 (startOf steps) good (omega arith) (omega arith))
+  all-rise = rw (header-times (startOf steps) (bodyFrom false 0 (startOf steps) steps)) (body-rises steps false 0 0 (startOf steps) good (omega arith))
 
   all-alternate : (wire : ℕ) → Alternates 2 (valuesOf wire (dumpOf steps))
   unfolding dumpOf
@@ -312,12 +302,12 @@ module _ (steps : List Step) (good : Good steps) (few : length steps ≤ 2047) w
           let h = ltb-true wire 40 q in
           subst (λ (x : ℕ). Alternates x (valuesOf wire (bodyFrom false 0 (startOf steps) steps)))
           (fresh-value (startOf steps) (wire / 2) wire (fresh-start steps) (omega (arith, long-start steps)))
-          (body-alternates wire steps false 0 (startOf steps) good (long-start steps))
-      by false q = rw (no-pins wire steps false 0 (startOf steps) good (ltb-false wire 40 q)) tt
+          (body-alternates wire steps false 0 (startOf steps) (2 ^ 48) good (long-start steps))
+      by false q = rw (no-pins wire steps false 0 (startOf steps) (2 ^ 48) good (ltb-false wire 40 q)) tt
 
 pub all-shown : AllShown
 all-shown steps good few = record {
-  back = read-back steps good few;
+  back = back-dump steps good few;
   short = short-dump steps good few;
   rises = all-rise steps good few;
   alternates = all-alternate steps good few;

@@ -13,7 +13,8 @@ use Rattle.decimal.specs.Digits.{digitsOf}
 use Rattle.decimal.proofs.Back.{decimal-back, are-digits, first-digit, digits-small, some-digits}
 use Rattle.vcd.specs.declared.Line.{Line}
 use Rattle.vcd.specs.declared.Line.the-variants.{Fixed, Var, Unknown, Time, Change, Other}
-use Rattle.vcd.specs.Lines.{timescale, scope, upscope, definitions, dumpvars, end, codeOf, varOf, printOf, textOf, same, wireOf, varWith, headOf, numberOf, timeOf, valueOf, changeIn, lineOf, linesFrom, linesOf}
+use Rattle.vcd.specs.Lines.{timescale, scope, upscope, definitions, dumpvars, end, codeOf, varOf, printOf, textOf}
+use Rattle.vcd.specs.How.{same, wireOf, varWith, headOf, numberOf, timeOf, valueOf, changeIn, lineOf, linesFrom, linesOf}
 
 -- the lines that a dump can have
 abbrev pub GoodLine : Line → Type 0

@@ -12,7 +12,7 @@ use Rattle.vcd.specs.declared.Line.the-variants.{Fixed, Var, Unknown, Ti
 use Rattle.vcd.specs.Lines.{textOf}
 use Rattle.vcd.specs.Dump.{dumpOf, Good}
 use Rattle.vcd.specs.Entries.{Entry, entriesIn}
-use Rattle.vcd.specs.Reader.{entries, readOf}
+use Rattle.vcd.specs.Reader.{Reads}
 
 -- the times of a dump, and the values of one wire, in order
 unfoldable pub timesIn : List Line → List ℕ
@@ -43,18 +43,18 @@ abbrev pub Alternates : ℕ → List ℕ → Type 0
 Alternates v [] = Unit {0}
 Alternates v (b ∷ bs) = (v ≡ b → ⊥) × Alternates b bs
 
--- a log has at most 2,047 records
 pub record Shown (steps : List Step) : Type 0 where
   -- the reader gives back the pins as they stand after all changes at each time at which something changed
-  pub back : readOf (textOf (dumpOf steps)) ≡ entries (entriesIn steps)
+  pub back : Reads (textOf (dumpOf steps)) (entriesIn steps)
   -- RVZ_DUMP_BYTES
   pub short : length (textOf (dumpOf steps)) ≤ 25207
   pub rises : Rises 0 (timesIn (dumpOf steps))
   -- 2 being unknown
   pub alternates : (wire : ℕ) → Alternates 2 (valuesOf wire (dumpOf steps))
 
+-- a log has at most 2,047 records, which end below 2^48 ns
 abbrev pub AllShown : Type 0
-AllShown = (steps : List Step) → Good steps → length steps ≤ 2047 → Shown steps
+AllShown = (steps : List Step) → Good (2 ^ 48) 0 steps → length steps ≤ 2047 → Shown steps
 
 -- the dump of docs/WAVEFORM.md, line by line, and its entries: encoder 10 is encoder 0 of bank 1
 abbrev pub pageSteps : List Step

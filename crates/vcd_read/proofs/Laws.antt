@@ -14,7 +14,8 @@ use Rattle.decimal.specs.declared.Decimal.the-variants.{Number, NoNumber}
 use Rattle.decimal.specs.Decimal.{decimalOf}
 use Rattle.vcd.specs.declared.Line.{Line}
 use Rattle.vcd.specs.declared.Line.the-variants.{Fixed, Var, Unknown, Time, Change, Other}
-use Rattle.vcd.specs.Lines.{timescale, scope, upscope, definitions, dumpvars, end, varOf, same, wireOf, varWith, headOf, numberOf, timeOf, valueOf, changeIn, lineOf}
+use Rattle.vcd.specs.Lines.{timescale, scope, upscope, definitions, dumpvars, end, varOf}
+use Rattle.vcd.specs.How.{same, wireOf, varWith, headOf, numberOf, timeOf, valueOf, changeIn, lineOf}
 use Rattle.vcd_read.specs.Bounds.{Bounded}
 
 -- ---- same
