@@ -14,7 +14,7 @@ use Rattle.vcd.specs.declared.Step.{Step}
 use Rattle.vcd.specs.declared.Step.the-variants.{Wait, Pins}
 use Rattle.vcd.specs.declared.Line.{Line}
 use Rattle.vcd.specs.declared.Line.the-variants.{Fixed, Var, Unknown, Time, Change}
-use Rattle.vcd.specs.Lines.{timescale, scope, upscope, definitions, dumpvars, end, varOf, printOf, textOf}
+use Rattle.vcd.specs.Lines.{fixedLines, varOf, printOf, textOf}
 use Rattle.vcd.specs.Dump.{startOf, wiresFrom, headerOf, changeOf, changesOf, timed, bodyFrom, dumpOf, Good}
 use Rattle.vcd.proofs.Print.{GoodLine, GoodLines}
 use Rattle.vcd.proofs.Starts.{long-start}
@@ -87,7 +87,7 @@ module _ (pins unknown : List ℕ) (l : length pins ≡ 20) (m : length unknown 
   )
 
   fixed-long : (ls ms : List Line) → length (textOf (Fixed 0 ∷ Fixed 1 ∷ (ls ++ Fixed 2 ∷ Fixed 3 ∷ Fixed 4 ∷ (ms ++ Fixed 5 ∷ [])))) ≡ 95 + length (textOf ls) + length (textOf ms)
-  unfolding textOf printOf timescale scope upscope definitions dumpvars end
+  unfolding textOf printOf fixedLines
   fixed-long ls ms = omega (arith, text-long ls (Fixed 2 ∷ Fixed 3 ∷ Fixed 4 ∷ (ms ++ Fixed 5 ∷ [])), text-long ms (Fixed 5 ∷ []))
 
   short-header : length (textOf (headerOf pins unknown)) ≤ 1655

@@ -8,7 +8,7 @@ use native.Mathlib.Omega.{arith}
 use native.Mathlib.Nat.{add-zero}
 use lib.Dec.{eqb, ltb}
 use lib.ListN.{length, getD, set, length-set}
-use lib.Seq.{getD-set-same, getD-set-other}
+use lib.Seq.{append-snoc, getD-set-same, getD-set-other}
 use borrow.Author.Tests.{eqb-true, eqb-false, eq-eqb, ne-eqb, lt-ltb, le-ltb, ltb-true, ltb-false}
 use Rattle.vcd.specs.declared.Step.{Step}
 use Rattle.vcd.specs.declared.Step.the-variants.{Wait, Pins}
@@ -17,12 +17,41 @@ use Rattle.vcd.specs.declared.Line.the-variants.{Fixed, Var, Unknown, Ti
 use Rattle.vcd.specs.Dump.{declared, startOf, wiresFrom, headerOf, changeOf, changesOf, timed, bodyFrom, dumpOf, Good}
 use Rattle.vcd.specs.Entries.{entriesAt, entriesFrom}
 use Rattle.vcd.specs.How.{pinOf}
-use Rattle.vcd.specs.Facts.{timesIn, valuesOf, Rises, Alternates, Shown, AllShown, Page}
+use Rattle.vcd.specs.Facts.{Shown, AllShown, Page}
 use Rattle.vcd.proofs.Starts.{Fresh, fresh-start, long-start}
 use Rattle.vcd.proofs.Heart.{no-change}
-use Rattle.vcd.proofs.Bound.{in-time, short-dump}
+use Rattle.vcd.proofs.Bound.{in-time}
 use Rattle.vcd.proofs.Sound.{regroup}
 use Rattle.vcd.proofs.Readings.{back-dump}
+
+-- the times of a dump, and the values of one wire, in order
+timesIn : List Line → List ℕ
+timesIn [] = []
+timesIn (Fixed k ∷ ls) = timesIn ls
+timesIn (Var w ∷ ls) = timesIn ls
+timesIn (Unknown w ∷ ls) = timesIn ls
+timesIn (Time t ∷ ls) = t ∷ timesIn ls
+timesIn (Change w b ∷ ls) = timesIn ls
+timesIn (Other ∷ ls) = timesIn ls
+
+valuesOf : ℕ → List Line → List ℕ
+valuesOf wire [] = []
+valuesOf wire (Fixed k ∷ ls) = valuesOf wire ls
+valuesOf wire (Var w ∷ ls) = valuesOf wire ls
+valuesOf wire (Unknown w ∷ ls) = valuesOf wire ls
+valuesOf wire (Time t ∷ ls) = valuesOf wire ls
+valuesOf wire (Change w b ∷ ls) = cond (eqb w wire) (b ∷ []) [] ++ valuesOf wire ls
+valuesOf wire (Other ∷ ls) = valuesOf wire ls
+
+-- each later than the one before, the first at least k, all below 2^48
+abbrev Rises : ℕ → List ℕ → Type 0
+Rises k [] = Unit {0}
+Rises k (t ∷ ts) = (k ≤ t) × (t < 2 ^ 48) × Rises (t + 1) ts
+
+-- each another than the one before, the first another than v
+abbrev Alternates : ℕ → List ℕ → Type 0
+Alternates v [] = Unit {0}
+Alternates v (b ∷ bs) = (v ≡ b → ⊥) × Alternates b bs
 
 -- ---- lists of lines in a row
 
@@ -305,12 +334,62 @@ module _ (steps : List Step) (good : Good (2 ^ 48) 0 steps) (few : length steps 
           (body-alternates wire steps false 0 (startOf steps) (2 ^ 48) good (long-start steps))
       by false q = rw (no-pins wire steps false 0 (startOf steps) (2 ^ 48) good (ltb-false wire 40 q)) tt
 
+-- ---- said of lines
+
+rising : (xs ys zs : List ℕ) (k s t : ℕ) → Rises k (xs ++ s ∷ ys ++ t ∷ zs) → s < t
+rising [] [] zs k s t r = omega (arith, r .2 .0)
+rising [] (b ∷ ys) zs k s t r = omega (arith, r .2 .0, rising [] ys zs (s + 1) b t (r .2))
+rising (a ∷ xs) ys zs k s t r = rising xs ys zs (a + 1) s t (r .2)
+
+early-in : (xs ys : List ℕ) (k t : ℕ) → Rises k (xs ++ t ∷ ys) → t < 2 ^ 48
+early-in [] ys k t r = r .1
+early-in (a ∷ xs) ys k t r = early-in xs ys (a + 1) t (r .2)
+
+alternating : (xs zs : List ℕ) (k u v : ℕ) → Alternates k (xs ++ u ∷ v ∷ zs) → u ≡ v → ⊥
+alternating [] zs k u v r = r .1 .0
+alternating (a ∷ xs) zs k u v r = alternating xs zs a u v (r .1)
+
+-- no change of a wire: no values
+module _ (w : ℕ) where
+  abbrev None : List Line → Type 0
+  None b = (d e : List Line) (x : ℕ) → b ≡ d ++ Change w x ∷ e → ⊥
+
+  none-tail : (l : Line) (b : List Line) → None (l ∷ b) → None b
+  none-tail l b n d e x q = n (l ∷ d) e x (ap (λ (z : List Line). l ∷ z) q)
+
+  no-value : (b : List Line) → None b → valuesOf w b ≡ []
+  unfolding valuesOf
+  no-value [] n = refl
+  no-value (Fixed k ∷ b) n = no-value b (none-tail (Fixed k) b n)
+  no-value (Var v ∷ b) n = no-value b (none-tail (Var v) b n)
+  no-value (Unknown v ∷ b) n = no-value b (none-tail (Unknown v) b n)
+  no-value (Time t ∷ b) n = no-value b (none-tail (Time t) b n)
+  no-value (Change v x ∷ b) n =
+      rw (ne-eqb v w (λ q. n [] b x (ap (λ (i : ℕ). Change i x ∷ b) q))) (no-value b (none-tail (Change v x) b n))
+  no-value (Other ∷ b) n = no-value b (none-tail Other b n)
+
+module _ (steps : List Step) (good : Good (2 ^ 48) 0 steps) (few : length steps ≤ 2047) where
+  early : (a b : List Line) (t : ℕ) → dumpOf steps ≡ a ++ Time t ∷ b → t < 2 ^ 48
+  unfolding timesIn
+  early a b t e = early-in (timesIn a) (timesIn b) 0 t (rw (e, times-append a (Time t ∷ b)) at (all-rise steps good few))
+
+  rises : (a b c : List Line) (s t : ℕ) → dumpOf steps ≡ a ++ Time s ∷ b ++ Time t ∷ c → s < t
+  unfolding timesIn
+  rises a b c s t e =
+      rising (timesIn a) (timesIn b) (timesIn c) 0 s t (rw (e, times-append (a ++ Time s ∷ b) (Time t ∷ c), times-append a (Time s ∷ b)) at (all-rise steps good few))
+
+  alternates : (a b c : List Line) (w u v : ℕ) → dumpOf steps ≡ a ++ Change w u ∷ b ++ Change w v ∷ c → None w b → u ≡ v → ⊥
+  unfolding valuesOf
+  alternates a b c w u v e n =
+      alternating (valuesOf w a) (valuesOf w c) 2 u v
+      (rw (e, values-append w (a ++ Change w u ∷ b) (Change w v ∷ c), values-append w a (Change w u ∷ b), eq-eqb w w refl, no-value w b n, append-snoc (valuesOf w a) u (v ∷ valuesOf w c)) at (all-alternate steps good few w))
+
 pub all-shown : AllShown
 all-shown steps good few = record {
   back = back-dump steps good few;
-  short = short-dump steps good few;
-  rises = all-rise steps good few;
-  alternates = all-alternate steps good few;
+  early = early steps good few;
+  rises = rises steps good few;
+  alternates = alternates steps good few;
 }
 
 pub page : Page

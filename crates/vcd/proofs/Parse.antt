@@ -16,8 +16,8 @@ use Rattle.decimal.proofs.Back.{digits-small, digits-more}
 use Rattle.vcd.specs.declared.Line.{Line}
 use Rattle.vcd.specs.declared.Line.the-variants.{Fixed, Var, Unknown, Time, Change, Other}
 use Rattle.vcd.specs.declared.Reader.{Reader}
-use Rattle.vcd.specs.Lines.{timescale, scope, upscope, definitions, dumpvars, end, codeOf, varOf, printOf, textOf}
-use Rattle.vcd.specs.How.{same, wireOf, varWith, headOf, numberOf, timeOf, valueOf, changeIn, lineOf, linesFrom, refused, follows, taken, turnOf, whole}
+use Rattle.vcd.specs.Lines.{codeOf, varOf, printOf, textOf}
+use Rattle.vcd.specs.How.{same, wireOf, varWith, fixedAt, headOf, numberOf, timeOf, valueOf, changeIn, lineOf, linesFrom, refused, follows, taken, turnOf, whole}
 use Rattle.vcd.proofs.Print.{GoodLine, GoodLines}
 use Rattle.vcd.proofs.Heart.{at}
 
@@ -61,12 +61,12 @@ fair-var s w =
 fair-head : (s : List ℕ) → Fair s (headOf s)
 unfolding headOf printOf
 fair-head s =
-    fair-if (same s timescale) s (Fixed 0) _ (λ e. inr (omega arith, same-true s timescale e))
-    (λ _. fair-if (same s scope) s (Fixed 1) _ (λ e. inr (omega arith, same-true s scope e))
-    (λ _. fair-if (same s upscope) s (Fixed 2) _ (λ e. inr (omega arith, same-true s upscope e))
-    (λ _. fair-if (same s definitions) s (Fixed 3) _ (λ e. inr (omega arith, same-true s definitions e))
-    (λ _. fair-if (same s dumpvars) s (Fixed 4) _ (λ e. inr (omega arith, same-true s dumpvars e))
-    (λ _. fair-if (same s end) s (Fixed 5) _ (λ e. inr (omega arith, same-true s end e)) (λ _. fair-var s (wireOf (getD s 12 0))))))))
+    fair-if (same s (fixedAt 0)) s (Fixed 0) _ (λ e. inr (omega arith, same-true s (fixedAt 0) e))
+    (λ _. fair-if (same s (fixedAt 1)) s (Fixed 1) _ (λ e. inr (omega arith, same-true s (fixedAt 1) e))
+    (λ _. fair-if (same s (fixedAt 2)) s (Fixed 2) _ (λ e. inr (omega arith, same-true s (fixedAt 2) e))
+    (λ _. fair-if (same s (fixedAt 3)) s (Fixed 3) _ (λ e. inr (omega arith, same-true s (fixedAt 3) e))
+    (λ _. fair-if (same s (fixedAt 4)) s (Fixed 4) _ (λ e. inr (omega arith, same-true s (fixedAt 4) e))
+    (λ _. fair-if (same s (fixedAt 5)) s (Fixed 5) _ (λ e. inr (omega arith, same-true s (fixedAt 5) e)) (λ _. fair-var s (wireOf (getD s 12 0))))))))
 
 -- digits that follow a number's
 digits-on : (bs : List ℕ) (v : ℕ) → 0 < v → areDigits bs ≡ true → digitsOf (valueFrom v bs) ≡ digitsOf v ++ bs

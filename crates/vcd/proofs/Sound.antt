@@ -204,7 +204,7 @@ module _ (told : Bool) (ph now : ℕ) (pins ch : List ℕ) (ls : List Line) (in-
       let v = k .v in
       let p = getD pins e 0 in
       let next = by-run (at ph 0 now pins ch) (at 8 0 now (set pins e v) (set ch e 1)) (changesOf e p v ++ k .rest) (k .rest)
-          (changes ph now e v pins ch (k .rest) in-time (k .small) (omega (arith, k .row)) p refl (k .low) (k .other)) (subst (Accepts (at ph 0 now pins ch)) (k .lines) h) in
+      (changes ph now e v pins ch (k .rest) in-time (k .small) (omega (arith, k .row)) p refl (k .low) (k .other)) (subst (Accepts (at ph 0 now pins ch)) (k .lines) h) in
       let b = ih (set pins e v) (set ch e 1) (k .rest) (length-set pins e v ∙ long) (k .shorter) (k .good) next in
       record {
         steps = Pins e v ∷ (b .steps);
@@ -522,9 +522,10 @@ module _ (all : List ℕ) where
 under-fine : (xs ys p : List ℕ) (e : ℕ) → length p ≡ e → Fine (Declared (p ++ ys)) e xs → Under xs ys
 under-fine [] ys p e l h = tt
 under-fine (x ∷ xs) [] p e l h = tt
-under-fine (x ∷ xs) (y ∷ ys) p e l h =
-    (λ n. sym (getD-at p y ys 0 e l) ∙ h .0 n,
-    under-fine xs ys (p ++ y ∷ []) (e + 1) (length-append p (y ∷ []) ∙ omega arith) (subst (λ (z : List ℕ). Fine (Declared z) (e + 1) xs) (sym (append-snoc p y ys)) (h .1)))
+under-fine (x ∷ xs) (y ∷ ys) p e l h = (
+  λ n. sym (getD-at p y ys 0 e l) ∙ h .0 n,
+  under-fine xs ys (p ++ y ∷ []) (e + 1) (length-append p (y ∷ []) ∙ omega arith) (subst (λ (z : List ℕ). Fine (Declared z) (e + 1) xs) (sym (append-snoc p y ys)) (h .1)),
+)
 
 -- the fixed lines with no wires before them
 fixed-next : (k : ℕ) (pins : List ℕ) (ls : List Line) → k < 6 → (k ≡ 2 → ⊥) → (k ≡ 5 → ⊥) → GoodLines ls → Accepts (at k 0 0 pins unchanged) ls → End k ls

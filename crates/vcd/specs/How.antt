@@ -11,7 +11,7 @@ use Rattle.decimal.specs.Decimal.{decimalOf}
 use Rattle.vcd.specs.declared.Line.{Line}
 use Rattle.vcd.specs.declared.Line.the-variants.{Fixed, Var, Unknown, Time, Change, Other}
 use Rattle.vcd.specs.declared.Reader.{Reader}
-use Rattle.vcd.specs.Lines.{timescale, scope, upscope, definitions, dumpvars, end, varOf}
+use Rattle.vcd.specs.Lines.{fixedLines, varOf}
 use Rattle.vcd.specs.Entries.{Entry, entriesAt, unchanged}
 
 -- ---- a line
@@ -30,14 +30,17 @@ wireOf c = cond (ltb c 65) 40 (cond (ltb c 85) (c - 65) (cond (ltb c 97) 40 (con
 abbrev pub varWith : List ℕ → ℕ → Line
 varWith s w = cond (ltb w 40) (cond (same s (varOf w)) (Var w) Other) Other
 
+abbrev pub fixedAt : ℕ → List ℕ
+fixedAt k = getD fixedLines k []
+
 unfoldable pub headOf : List ℕ → Line
 headOf s =
-    cond (same s timescale) (Fixed 0)
-    (cond (same s scope) (Fixed 1)
-    (cond (same s upscope) (Fixed 2)
-    (cond (same s definitions) (Fixed 3)
-    (cond (same s dumpvars) (Fixed 4)
-    (cond (same s end) (Fixed 5) (varWith s (wireOf (getD s 12 0))))))))
+    cond (same s (fixedAt 0)) (Fixed 0)
+    (cond (same s (fixedAt 1)) (Fixed 1)
+    (cond (same s (fixedAt 2)) (Fixed 2)
+    (cond (same s (fixedAt 3)) (Fixed 3)
+    (cond (same s (fixedAt 4)) (Fixed 4)
+    (cond (same s (fixedAt 5)) (Fixed 5) (varWith s (wireOf (getD s 12 0))))))))
 
 -- a line that begins with "#": "no leading zero"
 abbrev pub numberOf : Decimal → Line

@@ -1,38 +1,21 @@
 -- The lines of a dump as bytes: docs/WAVEFORM.md. Assumes nothing.
-use mathlib.Core.Bool.{cond}
 use mathlib.Core.List.{List, [], _∷_, _++_}
 use Prim.Native.Nat.{ℕ, _+_, _*_, _/_, _%_}
-use lib.Dec.{eqb}
+use lib.ListN.{getD}
 use Rattle.decimal.specs.Digits.{digitsOf}
 use Rattle.vcd.specs.declared.Line.{Line}
 use Rattle.vcd.specs.declared.Line.the-variants.{Fixed, Var, Unknown, Time, Change, Other}
 
--- "$timescale 1 ns $end"
-unfoldable pub timescale : List ℕ
-timescale = 36 ∷ 116 ∷ 105 ∷ 109 ∷ 101 ∷ 115 ∷ 99 ∷ 97 ∷ 108 ∷ 101 ∷ 32 ∷ 49 ∷ 32 ∷ 110 ∷ 115 ∷ 32 ∷ 36 ∷ 101 ∷ 110 ∷ 100 ∷ []
-
--- "$scope module pins $end"
-unfoldable pub scope : List ℕ
-scope = 36 ∷ 115 ∷ 99 ∷ 111 ∷ 112 ∷ 101 ∷ 32 ∷ 109 ∷ 111 ∷ 100 ∷ 117 ∷ 108 ∷ 101 ∷ 32 ∷ 112 ∷ 105 ∷ 110 ∷ 115 ∷ 32 ∷ 36 ∷ 101 ∷ 110 ∷ 100 ∷ []
-
--- "$upscope $end"
-unfoldable pub upscope : List ℕ
-upscope = 36 ∷ 117 ∷ 112 ∷ 115 ∷ 99 ∷ 111 ∷ 112 ∷ 101 ∷ 32 ∷ 36 ∷ 101 ∷ 110 ∷ 100 ∷ []
-
--- "$enddefinitions $end"
-unfoldable pub definitions : List ℕ
-definitions = 36 ∷ 101 ∷ 110 ∷ 100 ∷ 100 ∷ 101 ∷ 102 ∷ 105 ∷ 110 ∷ 105 ∷ 116 ∷ 105 ∷ 111 ∷ 110 ∷ 115 ∷ 32 ∷ 36 ∷ 101 ∷ 110 ∷ 100 ∷ []
-
--- "$dumpvars"
-unfoldable pub dumpvars : List ℕ
-dumpvars = 36 ∷ 100 ∷ 117 ∷ 109 ∷ 112 ∷ 118 ∷ 97 ∷ 114 ∷ 115 ∷ []
-
--- "$end"
-unfoldable pub end : List ℕ
-end = 36 ∷ 101 ∷ 110 ∷ 100 ∷ []
-
-abbrev pub fixedOf : ℕ → List ℕ
-fixedOf k = cond (eqb k 0) timescale (cond (eqb k 1) scope (cond (eqb k 2) upscope (cond (eqb k 3) definitions (cond (eqb k 4) dumpvars end))))
+-- the six fixed lines: "$timescale 1 ns $end", "$scope module pins $end", "$upscope $end", "$enddefinitions $end", "$dumpvars", "$end"
+unfoldable pub fixedLines : List (List ℕ)
+fixedLines =
+    (36 ∷ 116 ∷ 105 ∷ 109 ∷ 101 ∷ 115 ∷ 99 ∷ 97 ∷ 108 ∷ 101 ∷ 32 ∷ 49 ∷ 32 ∷ 110 ∷ 115 ∷ 32 ∷ 36 ∷ 101 ∷ 110 ∷ 100 ∷ [])
+    ∷ (36 ∷ 115 ∷ 99 ∷ 111 ∷ 112 ∷ 101 ∷ 32 ∷ 109 ∷ 111 ∷ 100 ∷ 117 ∷ 108 ∷ 101 ∷ 32 ∷ 112 ∷ 105 ∷ 110 ∷ 115 ∷ 32 ∷ 36 ∷ 101 ∷ 110 ∷ 100 ∷ [])
+    ∷ (36 ∷ 117 ∷ 112 ∷ 115 ∷ 99 ∷ 111 ∷ 112 ∷ 101 ∷ 32 ∷ 36 ∷ 101 ∷ 110 ∷ 100 ∷ [])
+    ∷ (36 ∷ 101 ∷ 110 ∷ 100 ∷ 100 ∷ 101 ∷ 102 ∷ 105 ∷ 110 ∷ 105 ∷ 116 ∷ 105 ∷ 111 ∷ 110 ∷ 115 ∷ 32 ∷ 36 ∷ 101 ∷ 110 ∷ 100 ∷ [])
+    ∷ (36 ∷ 100 ∷ 117 ∷ 109 ∷ 112 ∷ 118 ∷ 97 ∷ 114 ∷ 115 ∷ [])
+    ∷ (36 ∷ 101 ∷ 110 ∷ 100 ∷ [])
+    ∷ []
 
 -- "capitals `A` to `T` for bank 0, small letters `a` to `t` for bank 1"
 abbrev pub codeOf : ℕ → ℕ
@@ -44,7 +27,7 @@ varOf w = 36 ∷ 118 ∷ 97 ∷ 114 ∷ 32 ∷ 119 ∷ 105 ∷ 114 ∷ 101 ∷ 3
 
 -- "xG", "#100", "0G" and "1G"
 unfoldable pub printOf : Line → List ℕ
-printOf (Fixed k) = fixedOf k
+printOf (Fixed k) = getD fixedLines k []
 printOf (Var w) = varOf w
 printOf (Unknown w) = 120 ∷ codeOf w ∷ []
 printOf (Time t) = 35 ∷ digitsOf t

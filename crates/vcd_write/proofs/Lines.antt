@@ -15,7 +15,7 @@ use Rattle.decimal.specs.Put.{Put}
 use Rattle.decimal.proofs.Puts.{put-nothing, put-then}
 use Rattle.vcd.specs.declared.Line.{Line}
 use Rattle.vcd.specs.declared.Line.the-variants.{Fixed, Var, Unknown, Time, Change}
-use Rattle.vcd.specs.Lines.{timescale, scope, upscope, definitions, dumpvars, end, codeOf, varOf, printOf, textOf}
+use Rattle.vcd.specs.Lines.{codeOf, varOf, printOf, textOf}
 use Rattle.vcd.specs.Dump.{wiresFrom, headerOf, changesOf, timed}
 use Rattle.vcd.proofs.Heart.{some-change, no-change}
 use Rattle.vcd.proofs.Bound.{text-append}
