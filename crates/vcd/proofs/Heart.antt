@@ -1,23 +1,23 @@
 -- What the reader makes of a dump: the pins as they stand after all changes at each time at which something changed.
 -- Assumes nothing.
 use mathlib.Core.Path.{_≡_, refl, sym, ap, _∙_, subst}
-use mathlib.Core.Bool.{Bool, true, false, _&&_, _||_, not, cond, false≢true}
+use mathlib.Core.Bool.{Bool, true, false, _&&_, _||_, cond, false≢true}
 use mathlib.Core.List.{List, [], _∷_, _++_, foldl, append-assoc, append-nil}
-use Prim.Native.Nat.{ℕ, zero, suc, _+_, _*_, _/_, _%_, _^_, _≤_, _<_}
+use Prim.Native.Nat.{ℕ, zero, suc, _+_, _*_, _/_, _%_, _≤_, _<_}
 use native.Mathlib.Omega.{arith}
 use native.Mathlib.Nat.{add-zero}
-use lib.Dec.{eqb, ltb, leb}
+use lib.Dec.{eqb, ltb}
 use lib.ListN.{length, getD, set, replicate, length-set, length-append}
 use lib.Seq.{append-snoc, getD-at, set-at, getD-set-same, set-getD}
-use borrow.Author.Tests.{eqb-true, eqb-false, eq-eqb, ne-eqb, lt-ltb, le-ltb, le-leb, ltb-true, ltb-false}
+use borrow.Author.Tests.{eqb-true, eqb-false, eq-eqb, ne-eqb, lt-ltb, le-leb, ltb-true, ltb-false}
 use Rattle.vcd.specs.declared.Step.{Step}
 use Rattle.vcd.specs.declared.Step.the-variants.{Wait, Pins}
 use Rattle.vcd.specs.declared.Line.{Line}
 use Rattle.vcd.specs.declared.Line.the-variants.{Fixed, Var, Unknown, Time, Change}
 use Rattle.vcd.specs.declared.Reader.{Reader}
-use Rattle.vcd.specs.Dump.{wiresFrom, headerOf, changeOf, changesOf, timed, bodyFrom, Good}
+use Rattle.vcd.specs.Dump.{wiresFrom, headerOf, changesOf, timed, bodyFrom, Good}
 use Rattle.vcd.specs.Entries.{Entry, unchanged, entriesAt, entriesFrom}
-use Rattle.vcd.specs.How.{turnOf, varTurn, unknownTurn, timeTurn, changeTurn, pinOf, taken, pinned, opening, toldBefore, toldFrom, whole, Told, entries, refusal, toldBy}
+use Rattle.vcd.specs.How.{turnOf, varTurn, unknownTurn, timeTurn, changeTurn, opening, toldBefore, toldFrom, whole, entries, toldBy}
 use Rattle.vcd.proofs.Starts.{Fresh, Under, There, there-set}
 
 -- what a run tells, and where it ends

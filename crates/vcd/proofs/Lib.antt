@@ -3,6 +3,7 @@ pub mod Starts
 pub mod Heart
 pub mod Bound
 pub mod Parse
-pub mod Sound
+pub mod Bodies
+pub mod Headers
 pub mod Readings
 pub mod Orders

@@ -5,7 +5,6 @@ use mathlib.Core.List.{List, [], _∷_, _++_, append-assoc, append-nil}
 use mathlib.Core.Logic.{_⊎_, inl, inr}
 use Prim.Native.Nat.{ℕ, zero, suc, _+_, _*_, _/_, _%_, _^_, _≤_, _<_}
 use native.Mathlib.Omega.{arith}
-use native.Mathlib.Nat.{add-zero}
 use lib.Dec.{eqb, ltb}
 use lib.ListN.{length, getD, set, length-set}
 use lib.Seq.{append-snoc, getD-set-same, getD-set-other}
@@ -17,11 +16,11 @@ use Rattle.vcd.specs.declared.Line.the-variants.{Fixed, Var, Unknown, Ti
 use Rattle.vcd.specs.Dump.{declared, startOf, wiresFrom, headerOf, changeOf, changesOf, timed, bodyFrom, dumpOf, Good}
 use Rattle.vcd.specs.Entries.{entriesAt, entriesFrom}
 use Rattle.vcd.specs.How.{pinOf}
-use Rattle.vcd.specs.Facts.{Shown, AllShown, Page}
+use Rattle.vcd.specs.Facts.{AllShown, Page}
 use Rattle.vcd.proofs.Starts.{Fresh, fresh-start, long-start}
 use Rattle.vcd.proofs.Heart.{no-change}
 use Rattle.vcd.proofs.Bound.{in-time}
-use Rattle.vcd.proofs.Sound.{regroup}
+use Rattle.vcd.proofs.Headers.{regroup}
 use Rattle.vcd.proofs.Readings.{back-dump}
 
 -- the times of a dump, and the values of one wire, in order

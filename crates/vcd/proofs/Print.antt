@@ -1,20 +1,20 @@
 -- Reading lines gives back what was written. Assumes nothing.
-use mathlib.Core.Path.{_≡_, refl, sym, ap, _∙_}
-use mathlib.Core.Bool.{Bool, true, false, _&&_, _||_, not, cond, false≢true}
+use mathlib.Core.Path.{_≡_, refl, ap, _∙_}
+use mathlib.Core.Bool.{Bool, true, false, _&&_, not, cond, false≢true}
 use mathlib.Core.List.{List, [], _∷_, _++_, append-nil}
-use Prim.Native.Nat.{ℕ, zero, suc, _+_, _-_, _*_, _/_, _%_, _^_, _≤_, _<_}
+use Prim.Native.Nat.{ℕ, zero, suc, _+_, _-_, _/_, _%_, _^_, _<_}
 use native.Mathlib.Omega.{arith}
 use lib.Dec.{eqb, ltb, leb}
-use lib.ListN.{length, getD, drop}
+use lib.ListN.{getD}
 use lib.Seq.{append-snoc}
 use borrow.Author.Tests.{lt-ltb, le-ltb, eq-eqb, ne-eqb, leb-true, ltb-true, ltb-false}
-use Rattle.decimal.specs.Decimal.{isDigit, areDigits, decimalOf}
+use Rattle.decimal.specs.Decimal.{areDigits}
 use Rattle.decimal.specs.Digits.{digitsOf}
-use Rattle.decimal.proofs.Back.{decimal-back, are-digits, first-digit, digits-small, some-digits}
+use Rattle.decimal.proofs.Back.{decimal-back, are-digits, first-digit, digits-small}
 use Rattle.vcd.specs.declared.Line.{Line}
 use Rattle.vcd.specs.declared.Line.the-variants.{Fixed, Var, Unknown, Time, Change, Other}
 use Rattle.vcd.specs.Lines.{fixedLines, codeOf, varOf, printOf, textOf}
-use Rattle.vcd.specs.How.{same, wireOf, varWith, headOf, numberOf, timeOf, valueOf, changeIn, lineOf, linesFrom, linesOf}
+use Rattle.vcd.specs.How.{same, wireOf, varWith, headOf, timeOf, valueOf, changeIn, lineOf, linesFrom, linesOf}
 
 -- the lines that a dump can have
 abbrev pub GoodLine : Line → Type 0

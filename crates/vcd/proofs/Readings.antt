@@ -1,25 +1,26 @@
 -- The reader gets there: what it tells of a text is the text's reading, and it refuses a text that has none. Assumes nothing.
-use mathlib.Core.Path.{_≡_, refl, sym, ap, _∙_, subst}
+use mathlib.Core.Path.{_≡_, refl, sym, ap, _∙_}
 use mathlib.Core.Bool.{Bool, true, false, cond}
-use mathlib.Core.List.{List, [], _++_, foldl}
-use Prim.Native.Nat.{ℕ, _≤_, _<_, _^_}
+use mathlib.Core.List.{List, [], _∷_, _++_, foldl}
+use Prim.Native.Nat.{ℕ, _≤_, _^_}
 use native.Mathlib.Omega.{arith}
 use lib.Dec.{ltb}
 use lib.ListN.{length}
 use borrow.Author.Tests.{le-ltb, ltb-false}
 use Rattle.vcd.specs.declared.Step.{Step}
 use Rattle.vcd.specs.declared.Line.{Line}
+use Rattle.vcd.specs.declared.Line.the-variants.{Fixed}
 use Rattle.vcd.specs.Lines.{textOf}
 use Rattle.vcd.specs.Dump.{startOf, headerOf, bodyFrom, dumpOf, Good}
 use Rattle.vcd.specs.Entries.{Entry, unchanged, entriesFrom, entriesIn}
 use Rattle.vcd.specs.Reader.{Reads, OneReading}
-use Rattle.vcd.specs.How.{linesOf, turnOf, opening, toldFrom, whole, Told, entries, refusal, toldBy, readOf}
+use Rattle.vcd.specs.How.{linesOf, turnOf, opening, toldFrom, whole, entries, refusal, toldBy, readOf}
 use Rattle.vcd.proofs.Print.{GoodLines, lines-back}
 use Rattle.vcd.proofs.Starts.{fresh-start, long-start, there-start, under-start, there-all, known-there, stays, three, pinsFrom, declares-all, all-declared}
 use Rattle.vcd.proofs.Heart.{told-all}
 use Rattle.vcd.proofs.Bound.{good-append, good-header, good-body, short-dump, still-good}
 use Rattle.vcd.proofs.Parse.{Accepts, text-forth}
-use Rattle.vcd.proofs.Sound.{Dump, dump-of}
+use Rattle.vcd.proofs.Headers.{Dump, dump-of, dump-lines}
 
 -- ---- what is a dump is read
 
@@ -62,22 +63,26 @@ module _ (text : List ℕ) (xs : List Entry) (short : length text ≤ 25207) (to
   same-entries : (ys : List Entry) → toldBy (linesOf text) ≡ entries ys → xs ≡ ys
   same-entries ys e = cc
 
-  dump-reads : textOf (linesOf text) ≡ text → Dump (linesOf text) → Reads text xs
-  dump-reads is d = record {
-    steps = d .steps;
-    good = d .good;
-    unknown = pinsFrom 0 (d .unknown);
-    more = pinsFrom 0 (d .pins);
-    pins = d .pins;
-    declared = all-declared (d .pins) (d .unknown) (d .steps) (d .long) (d .long-unknown) (d .fresh) (d .under) (known-there (d .steps) (d .pins) (2 ^ 64) 0 (d .fresh) (d .long) (d .good) (d .there));
-    dump =
-        sym is ∙ ap textOf (d .lines)
-        ∙ ap (λ (u : List ℕ). textOf (headerOf (d .pins) u ++ bodyFrom false 0 (d .pins) (d .steps))) (sym (declares-all (d .unknown) (d .long-unknown) (d .fresh-unknown)));
-    entries =
-        same-entries (entriesFrom 0 (d .pins) unchanged (d .steps))
-        (ap toldBy (d .lines) ∙ told-all (d .pins) (d .unknown) (d .steps) (2 ^ 64) (d .long) (d .long-unknown) (d .fresh) (d .under) (d .good) (d .there));
-    short = short;
-  }
+  dump-reads : textOf (linesOf text) ≡ text → Dump (λ x. Fixed 0 ∷ Fixed 1 ∷ x) (linesOf text) → Reads text xs
+  dump-reads is d =
+      let pins = d .pins in
+      let t = d .tail in
+      let lines = dump-lines (linesOf text) d in
+      record {
+        steps = t .steps;
+        good = t .good;
+        unknown = pinsFrom 0 (t .unknown);
+        more = pinsFrom 0 pins;
+        pins = pins;
+        declared = all-declared pins (t .unknown) (t .steps) (d .long) (t .long) (d .fresh) (t .under) (known-there (t .steps) pins (2 ^ 64) 0 (d .fresh) (d .long) (t .good) (t .there));
+        dump =
+            sym is ∙ ap textOf lines
+            ∙ ap (λ (u : List ℕ). textOf (headerOf pins u ++ bodyFrom false 0 pins (t .steps))) (sym (declares-all (t .unknown) (t .long) (t .fresh)));
+        entries =
+            same-entries (entriesFrom 0 pins unchanged (t .steps))
+            (ap toldBy lines ∙ told-all pins (t .unknown) (t .steps) (2 ^ 64) (d .long) (t .long) (d .fresh) (t .under) (t .good) (t .there));
+        short = short;
+      }
 
   read-lines : Reads text xs
   read-lines =
