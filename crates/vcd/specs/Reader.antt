@@ -9,12 +9,12 @@ use Rattle.vcd.specs.Lines.{textOf}
 use Rattle.vcd.specs.Dump.{startOf, headerOf, bodyFrom, Good}
 use Rattle.vcd.specs.Entries.{Entry, unchanged, entriesFrom}
 
--- the text is the dump of steps, whose entries are xs
+-- the text is the dump of some steps, and xs are the entries of these
 pub record Reads (text : List ℕ) (xs : List Entry) : Type 0 where
   pub steps : List Step
   -- "each time .. below 2^64"; "it does not ask whether 2,047 records would do"
   pub good : Good (2 ^ 64) 0 steps
-  -- "nor that a declared encoder has its `x` lines or any change": the encoders that have `x` lines, and those that have neither
+  -- "nor that a declared encoder has its `x` lines or any change": encoders that have `x` lines, and more that are declared
   pub unknown : List Step
   pub more : List Step
   pub pins : List ℕ
