@@ -1,12 +1,11 @@
 -- Both banks as four flat lists, and back; what is in range stays so.
 -- Assumes nothing.
-use mathlib.Core.Path.{_≡_, refl, sym, ap, _∙_}
+use mathlib.Core.Path.{_≡_, refl, _∙_}
 use mathlib.Core.List.{List, [], _∷_, _++_, map, append-nil}
 use Prim.Native.Nat.{ℕ, zero, suc, _+_, _*_, _^_, _<_}
 use native.Mathlib.Omega.{arith}
-use lib.ListN.{length, take, drop, getD, length-append, take-append-drop, length-take, length-drop}
+use lib.ListN.{length, take, drop, getD, length-append, length-drop}
 use lib.Seq.{take-at, drop-at, take-all, length-take-le, take-add}
-use Rattle.wire.specs.Bytes.{leOf}
 use Rattle.fold.specs.Run.{concat}
 use Rattle.encoder.specs.declared.Encoder.{Encoder}
 use Rattle.encoder.specs.Encoder as encoder
@@ -18,12 +17,12 @@ use Rattle.banks.specs.declared.State.{State}
 use Rattle.banks.specs.declared.Flat.{Flat}
 use Rattle.banks.specs.State.{noI2c, bankAt}
 use Rattle.banks.specs.How.{part, bankIn, stateOf}
-use Rattle.codec.specs.How.{loadWord, loadMany, Each, FitMany}
+use Rattle.codec.specs.How.{loadWord, loadMany, FitMany}
 use Rattle.codec.proofs.Each.{each-get, get-each, each-append, each-take, each-drop, take-many, drop-many}
 use Rattle.image_words.specs.Words.{FitsEncoder, FitsPwm, FitsI2c}
-use Rattle.image_words.specs.How.{encoderOf, i2cOf}
+use Rattle.image_words.specs.How.{encoderOf}
 use Rattle.image.specs.Image.{FitsBank}
-use Rattle.image.specs.How.{FitsState, loadPwm, loadBank, loadOf, flatOf}
+use Rattle.image.specs.How.{FitsState, loadPwm, loadOf, flatOf}
 
 -- ---- the lists of a state
 

@@ -2,37 +2,35 @@
 -- Assumes nothing.
 use mathlib.Core.Path.{_≡_, refl, sym, ap, _∙_, subst}
 use mathlib.Core.Bool.{Bool, true, false, cond, _&&_, _||_}
-use mathlib.Core.List.{List, [], _∷_, _++_}
-use Prim.Native.Nat.{ℕ, zero, suc, _+_, _*_, _-_, _/_, _%_, _^_, _<_, _≤_}
+use mathlib.Core.List.{List, [], _∷_}
+use Prim.Native.Nat.{ℕ, zero, suc, _+_, _*_, _-_, _/_, _%_, _^_, _<_}
 use native.Mathlib.Omega.{arith}
-use native.Mathlib.Nat.{mod-lt, mod-eq-of-lt}
-use lib.ListN.{length, take, drop, replicate}
+use lib.ListN.{length, take, replicate}
 use lib.Seq.{length-take-le}
 use lib.Dec.{ltb, leb, eqb}
 use borrow.Author.Tests.{le-leb, lt-leb, leb-true, eq-eqb, ne-eqb, eqb-true, ltb-true, ltb-false, lt-ltb}
 use Rattle.laws.proofs.Truth.{both-true}
-use Rattle.wire.specs.Bytes.{byte, leOf, leBytes}
+use Rattle.wire.specs.Bytes.{byte, leOf}
 use Rattle.edition.specs.Edition.{known}
 use Rattle.encoder.specs.declared.Encoder.{Encoder}
 use Rattle.pwm.specs.declared.Pwm.{Pwm}
 use Rattle.pwm.specs.Facts.{Short}
-use Rattle.divider.specs.Divider.{dividerOf}
 use Rattle.i2c.specs.declared.I2c.{I2c}
 use Rattle.banks.specs.declared.Flat.{Flat}
 use Rattle.banks.specs.How.{stateOf}
 use Rattle.live.specs.Live.{Live}
-use Rattle.codec.specs.How.{Lawful, Number, saveWord, loadWord, okWord, saveMany, loadMany, okMany, Each, FitMany}
+use Rattle.codec.specs.How.{Lawful, Number, loadWord, okWord, saveMany, loadMany, okMany, Each, FitMany}
 use Rattle.codec.proofs.Word.{word-lawful, any-number, byte-lawful}
 use Rattle.codec.proofs.Many.{many-lawful, both}
 use Rattle.codec.proofs.Build.{then-lawful, such-lawful, struct-lawful}
 use Rattle.codec.proofs.Each.{each-get, get-each, each-take, each-append}
 use Rattle.image_words.specs.Words.{FitsEncoder, FitsI2c, FitsPwm}
-use Rattle.image_words.specs.How.{encoderNumber, encoderOf, isEncoder, i2cNumber, i2cOf, isI2c, isSelect, isShort}
+use Rattle.image_words.specs.How.{encoderOf, isEncoder, i2cOf, isI2c, isSelect, isShort}
 use Rattle.image_words.proofs.Laid.{remainder-small}
 use Rattle.image_words.proofs.Digits.{select-number, i2c-number, encoder-number, FitsRegisters, registers-number, FitsWave, wave-number}
 use Rattle.image.specs.Image.{Fits}
 use Rattle.image.specs.How.{headNumber, savePwm, wordsOf, loadPwm, okPwm, isRefusal, isHead}
-use Rattle.image.proofs.Flats.{laidOut, selectsOf, i2csOf, encodersOf, pwmsOf, state-back, flat-back, FitsLists, lists-fit, sized, state-fits}
+use Rattle.image.proofs.Flats.{laidOut, state-back, flat-back, FitsLists, lists-fit, sized, state-fits}
 use Rattle.image.proofs.Pads.{padded, filled, filled-back, filled-long, filled-padded, take-filled}
 
 -- ---- a PWM channel

@@ -3,31 +3,28 @@
 use mathlib.Core.Path.{_≡_, refl, sym, ap, _∙_, subst}
 use mathlib.Core.Bool.{Bool, true, false, _&&_, and-true}
 use mathlib.Core.List.{List, [], _∷_, _++_, append-assoc}
-use Prim.Native.Nat.{ℕ, _+_, _*_, _/_, _%_, _^_, _≤_, _<_}
+use Prim.Native.Nat.{ℕ, _+_, _/_, _%_, _^_, _≤_, _<_}
 use native.Mathlib.Omega.{arith}
 use lib.ListN.{length, take, drop, length-append, take-append-drop}
 use lib.Seq.{sets, sets-eq, length-take-le}
-use lib.Dec.{ltb, leb}
+use lib.Dec.{ltb}
 use borrow.Author.Tests.{le-leb, lt-leb}
 use Rattle.wire.specs.Bytes.{byte, leOf, leBytes}
 use Rattle.codec.specs.How.{Bytes, saveWord, loadWord, okWord, saveMany, loadMany, okMany, Each}
 use Rattle.codec.proofs.Loops.{sets-append, many-long}
 use Rattle.codec.proofs.Each.{length-many}
 use Rattle.encoder.specs.declared.Encoder.{Encoder}
-use Rattle.pwm.specs.declared.Pwm.{Pwm}
 use Rattle.i2c.specs.declared.I2c.{I2c}
-use Rattle.bank.proofs.Full.{Full}
 use Rattle.banks.specs.declared.State.{State}
 use Rattle.banks.specs.declared.Flat.{Flat}
 use Rattle.banks.specs.How.{stateOf}
 use Rattle.banks.proofs.Whole.{Whole}
-use Rattle.live.specs.Live.{Live}
 use Rattle.live.specs.declared.Stream.{Stream}
 use Rattle.live.specs.How.{liveOf}
 use Rattle.image_words.specs.Words.{FitsEncoder}
 use Rattle.image_words.specs.How.{i2cNumber, i2cOf, isI2c, encoderNumber, lowNumber, encoderOf, isEncoder, isRegisters, isSelect}
 use Rattle.image_words.proofs.Numbers.{low-number}
-use Rattle.image.specs.Image.{imageOf, Fits}
+use Rattle.image.specs.Image.{imageOf}
 use Rattle.image.specs.How.{FitsState, headNumber, savePwm, wordsOf, loadPwm, loadOf, isHead, isCarried, isState, withEncoders, withPwms, flatOf, okWave, okQuick, Loads, Saves}
 use Rattle.image.proofs.Flats.{laidOut, flat-back, state-loaded, lists-fit, FitsLists, Sized}
 use Rattle.image.proofs.Pads.{filled, zeros-past}

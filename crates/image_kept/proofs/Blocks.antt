@@ -1,12 +1,12 @@
 -- Each block stays in range.
 -- Assumes nothing.
-use mathlib.Core.Path.{_≡_, refl, sym, ap, _∙_, subst}
+use mathlib.Core.Path.{_≡_, refl}
 use mathlib.Core.Bool.{Bool, true, false, not, cond, _&&_}
-use Prim.Native.Nat.{ℕ, zero, suc, _+_, _-_, _<_, _≤_}
+use Prim.Native.Nat.{ℕ, zero, suc, _+_, _-_, _<_}
 use native.Mathlib.Omega.{arith}
 use lib.Dec.{ltb, leb, eqb}
-use borrow.Author.Tests.{ltb-true, leb-false, eqb-true}
-use Rattle.wire.specs.Record.{pwmCnfg, pwmRange, i2cRange}
+use borrow.Author.Tests.{ltb-true, leb-false}
+use Rattle.wire.specs.Record.{pwmRange, i2cRange}
 use Rattle.encoder.specs.declared.Encoder.{Encoder}
 use Rattle.encoder.specs.Encoder as encoder
 use Rattle.encoder.proofs.Counting.{after-pins, pins-cnfg, pins-count, cnfg-count, stat-six, pins-stat}

@@ -1,16 +1,16 @@
 -- A record leaves every register in its range: the state of a stream has an image, after any records too.
 -- Assumes nothing.
-use mathlib.Core.Path.{_≡_, refl, sym, ap, _∙_, subst}
-use mathlib.Core.Bool.{Bool, true, false, cond, _&&_, _||_}
+use mathlib.Core.Path.{_≡_, refl, sym, _∙_, subst}
+use mathlib.Core.Bool.{Bool, true, false}
 use mathlib.Core.List.{List}
-use mathlib.Core.Logic.{_⊎_, inl, inr}
-use Prim.Native.Nat.{ℕ, _^_, _<_}
+use mathlib.Core.Logic.{inl, inr}
+use Prim.Native.Nat.{ℕ, _<_}
 use native.Mathlib.Omega.{arith}
-use lib.Dec.{eqb, leb}
-use lib.ListN.{length, length-set}
+use lib.Dec.{eqb}
+use lib.ListN.{length-set}
 use borrow.Author.Tests.{eqb-true, eqb-false, le-leb, ne-eqb}
 use Rattle.laws.proofs.Each.{length-each, each-keeps, set-keeps, fresh-keeps}
-use Rattle.fold.specs.Turn.{Turn, goes, reads, refused, leaves}
+use Rattle.fold.specs.Turn.{Turn, goes, refused, leaves}
 use Rattle.fold.specs.Run.{Course, going, stopped, runOf}
 use Rattle.fold.specs.Output.{numberOf}
 use Rattle.fold.proofs.Laws.{keeps, stopped-by}

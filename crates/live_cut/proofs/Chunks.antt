@@ -7,16 +7,15 @@ use Prim.Native.Nat.{ℕ, _+_, _*_, _/_, _%_, _^_, _<_}
 use native.Mathlib.Nat.{add-zero, mod-lt, mod-eq-of-lt}
 use native.Mathlib.Omega.{arith}
 use lib.ListN.{length, length-drop}
-use Rattle.fold.specs.Run.{Run, Course, going, stopped, under, resumed, runOf, concat}
+use Rattle.fold.specs.Run.{Course, going, stopped, under, resumed, runOf, concat}
 use Rattle.fold.specs.Output.{numberOf}
 use Rattle.fold.specs.Stream.{wholes, leftOver}
 use Rattle.fold.proofs.Streams.{no-wholes, all-left}
 use Rattle.edition.specs.Edition.{editionOf}
-use Rattle.banks.specs.declared.State.{State}
 use Rattle.walk.specs.Turn.{turnOf}
 use Rattle.walk.proofs.Numbers.{run-number}
 use Rattle.live.specs.Live.{Live, Taken, takenOf, chunkOf}
-use Rattle.live.specs.How.{finished, takenBy}
+use Rattle.live.specs.How.{finished}
 use Rattle.live.proofs.Two.{joined, ran, two-refused, two-going}
 use Rattle.live.proofs.Ways.{Way, again, taken, not-taken, way, refused-again}
 use Rattle.live_cut.specs.Cut.{Lent, bytesIn, streamed, Roomy}
@@ -66,7 +65,7 @@ nothing-more s g =
     ap (runOf (turnOf (editionOf (s .edition))) (s .state)) (ap (wholes 16) bytes ∙ no-wholes 16 (s .carried) (g .few)) in
     let applied : (s .applied + 0) % 2 ^ 64 ≡ s .applied = ap (λ (k : ℕ). k % 2 ^ 64) (add-zero (s .applied)) ∙ mod-eq-of-lt (g .small) in
     let carried : leftOver 16 (s .carried ++ []) ≡ s .carried = ap (leftOver 16) bytes ∙ all-left 16 (s .carried) (g .few) in
-    sym (ap (λ (x : Run State ℕ). takenBy x s []) run ∙ rw (carried, applied, ← g .none))
+    rw run (sym (rw (carried, applied, ← g .none)))
 
 left-few : (b : List ℕ) → length (leftOver 16 b) < 16
 left-few b = omega (arith, length-drop (16 * (length b / 16)) b)

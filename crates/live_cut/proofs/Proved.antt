@@ -3,14 +3,13 @@
 use mathlib.Core.Path.{_≡_, refl, sym, ap, ap₂, _∙_, subst}
 use mathlib.Core.List.{List, [], _∷_, _++_}
 use mathlib.Core.Bool.{Bool, true, false, cond}
-use Prim.Native.Nat.{ℕ, _+_, _*_, _/_, _%_, _^_, _≤_}
+use Prim.Native.Nat.{ℕ, _+_, _*_, _/_, _%_, _^_}
 use native.Mathlib.Nat.{zero-add, mod-eq-of-lt}
 use native.Mathlib.Omega.{arith}
 use lib.Dec.{eqb}
 use lib.ListN.{length, take, drop, take-append-drop, length-drop, drop-of-length-le}
 use lib.Seq.{length-take-le}
 use borrow.Author.Tests.{eq-eqb, ne-eqb}
-use Rattle.fold.specs.Run.{Run}
 use Rattle.fold.specs.Output.{stopOf, numberOf}
 use Rattle.fold.specs.Device.{records}
 use Rattle.fold.specs.Stream.{wholes, leftOver}
@@ -31,11 +30,10 @@ use Rattle.replay.proofs.Proved.{replayed}
 use Rattle.travel.specs.Stretch.{pinsIn, encoderAfter}
 use Rattle.travel.specs.Demand.{Demand}
 use Rattle.travel.proofs.Proved.{demand-of-runs}
-use Rattle.live.specs.Live.{Live, Taken, freshOf, takenOf, chunkOf, endOf}
-use Rattle.live.specs.How.{takenBy}
+use Rattle.live.specs.Live.{Taken, freshOf, takenOf, chunkOf, endOf}
 use Rattle.live.proofs.Ways.{Way, again, taken, not-taken, way}
 use Rattle.live.proofs.Ways as ways
-use Rattle.live_cut.specs.Cut.{Lent, bytesIn, streamed, Roomy}
+use Rattle.live_cut.specs.Cut.{bytesIn}
 use Rattle.live_cut.specs.Facts.{AnyCut, EndOfAll, CutOfLogs, Joined, SixLeaves, RefusedAgain, DemandOfStreams}
 use Rattle.live_cut.proofs.Chunks.{taken-not-six, all-at-once}
 
@@ -74,23 +72,17 @@ module _ (log : List ℕ) (a n e : ℕ) (found : trailerOf log ≡ Found a n e) 
   none-left true = drop-of-length-le all {i = 16 * (length all / 16)} (omega (arith, long))
   none-left false = refl
 
-  module _ (x : Run State ℕ) where
-    abbrev k : ℕ
-    k = numberOf (x .course)
-
-    log-taken : x .applied % 2 ^ 64 ≡ x .applied → takenBy x (freshOf e) all ≡ record { live = record { edition = e; state = x .state; carried = []; applied = x .applied; refused = k }; refused = k; readings = x .readings }
-    log-taken few = rw (none-left (eqb k 0), zero-add (x .applied), few)
-
 pub cut-of-logs : CutOfLogs
 unfolding takenOf stopOf
 cut-of-logs log room a n e cs found enough is h =
-    let same : played (editionOf e) (wholes 16 (all log a n e found)) ≡ replayOf log room =
+    let x = replayOf log room in
+    let same : played (editionOf e) (wholes 16 (all log a n e found)) ≡ x =
     ap₂ played (ap editionAt (sym found)) (log-records log a n e found ∙ ap (λ (t : Trailer). recordsAt t log) (sym found))
     ∙ sym (replayed log a n e room found enough) in
+    let few : x .applied % 2 ^ 64 ≡ x .applied = mod-eq-of-lt (omega (arith, small log room (stopOf x) refl)) in
     any-cut e cs h
     ∙ ap (takenOf (freshOf e)) is
-    ∙ ap (λ (x : Run State ℕ). takenBy x (freshOf e) (all log a n e found)) same
-    ∙ log-taken log a n e found (replayOf log room) (mod-eq-of-lt (omega (arith, small log room (stopOf (replayOf log room)) refl)))
+    ∙ rw (same, none-left log a n e found (eqb (numberOf (x .course)) 0), zero-add (x .applied), few)
 
 pub joined : Joined
 joined = bytes-cut (leBytes 8)

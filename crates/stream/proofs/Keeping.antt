@@ -2,20 +2,20 @@
 use mathlib.Core.Path.{_≡_, refl}
 use mathlib.Core.Bool.{Bool, true, false, cond}
 use mathlib.Core.List.{List, [], _++_}
-use Prim.Native.Nat.{ℕ, _+_, _*_, _-_, _/_, _%_, _^_, _<_, _≤_}
+use Prim.Native.Nat.{ℕ, _+_, _*_, _-_, _/_, _<_}
 use native.Mathlib.Omega.{arith}
 use lib.Dec.{eqb, leb}
-use lib.ListN.{length, drop, length-drop}
+use lib.ListN.{length, length-drop}
 use lib.Seq.{getD-drop}
 use Rattle.fold.specs.Run.{Run, runOf}
 use Rattle.fold.specs.Output.{numberOf}
 use Rattle.fold.specs.Stream.{leftOver}
 use Rattle.edition.specs.Edition.{known, editionOf}
-use Rattle.wire.specs.Bytes.{byte, readsIn}
+use Rattle.wire.specs.Bytes.{readsIn}
 use Rattle.banks.specs.declared.State.{State}
 use Rattle.walk.specs.Turn.{turnOf}
 use Rattle.live.specs.Live.{Live, Taken, freshOf, takenOf, chunkOf}
-use Rattle.live.specs.How.{finished, carriedBy}
+use Rattle.live.specs.How.{finished}
 use Rattle.codec.specs.How.{Bytes}
 use Rattle.codec.proofs.Has.{bytes-both}
 use Rattle.image.specs.Image.{Fits}

@@ -1,19 +1,21 @@
 -- The facts of specs/Facts.antt. Assumes nothing.
-use mathlib.Core.Path.{_≡_, refl, sym, ap, _∙_}
+use mathlib.Core.Logic.{inl, inr}
+use mathlib.Core.Path.{_≡_, refl, sym, _∙_, subst}
 use mathlib.Core.Bool.{Bool, true, false, cond}
-use mathlib.Core.List.{List, _++_}
+use mathlib.Core.List.{List}
 use Prim.Native.Nat.{ℕ}
 use native.Mathlib.Omega.{arith}
 use lib.Dec.{leb}
-use lib.ListN.{length, take, drop}
+use lib.ListN.{length, drop}
 use lib.Seq.{take-at}
 use Rattle.fold.specs.Output.{over}
 use Rattle.edition.specs.Edition.{known}
 use Rattle.live.specs.Live.{Live, freshOf}
 use Rattle.image.specs.Image.{size, imageOf, Fits, Stands}
 use Rattle.image.proofs.Loaded.{image-long}
-use Rattle.stream.specs.Stream.{startOf, startedIn}
-use Rattle.stream.specs.Facts.{Starts, Keeps}
+use Rattle.image.proofs.Proved.{images}
+use Rattle.stream.specs.Stream.{startedIn}
+use Rattle.stream.specs.Facts.{Starts, Keeps, OnSettled}
 use Rattle.stream.proofs.Keeping.{fits-chunk, fits-fresh}
 
 -- a stream stands where its image is put
@@ -31,3 +33,13 @@ starts edition state z = by (known edition) (leb size (length state)) refl z
 
 pub keeps : Keeps
 keeps state bytes room l given h = put _ (fits-chunk l (h .0) bytes given room) state
+
+-- one stream stands in bytes
+one : (state : List ℕ) (l m : Live) → Stands state l → Stands state m → m ≡ l
+one state l m a b = images l (a .0) .2 m (b .0) (b .1 ∙ sym (a .1))
+
+pub on-settled : OnSettled
+on-settled A state P N p n v w (inl a) (inl b) = p (a .0) v w (a .2) (subst (λ (l : Live). P l w) (one state (a .0) (b .0) (a .1) (b .1)) (b .2))
+on-settled A state P N p n v w (inl a) (inr b) = absurd (b .0 (a .0) (a .1))
+on-settled A state P N p n v w (inr a) (inl b) = absurd (a .0 (b .0) (b .1))
+on-settled A state P N p n v w (inr a) (inr b) = n v w (a .1) (b .1)

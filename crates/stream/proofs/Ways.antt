@@ -1,19 +1,18 @@
 -- The ways of each call. Assumes nothing.
-use mathlib.Core.Path.{_≡_, refl, sym, ap, _∙_, subst}
-use mathlib.Core.Bool.{Bool, true, false, cond, not}
-use mathlib.Core.List.{List, [], _++_}
+use mathlib.Core.Path.{_≡_, sym, ap, _∙_, subst}
+use mathlib.Core.Bool.{Bool, true, false}
+use mathlib.Core.List.{List, _++_}
 use mathlib.Core.Logic.{inl}
-use Prim.Native.Nat.{ℕ, _+_, _-_, _%_, _^_, _<_, _≤_}
+use Prim.Native.Nat.{ℕ, _+_, _-_, _<_, _≤_}
 use native.Mathlib.Omega.{arith}
-use lib.Dec.{eqb, leb}
-use lib.ListN.{length, getD, take, drop, replicate, length-drop, length-replicate}
-use borrow.Author.Tests.{le-leb, lt-leb, leb-true}
+use lib.ListN.{length, getD, drop, length-drop, length-replicate}
+use borrow.Author.Tests.{le-leb, lt-leb}
 use mir.Syntax.{w8}
 use mir.Val as val
 use Rattle.fold.specs.Output.{over}
 use Rattle.edition.specs.Edition.{known}
 use Rattle.wire.specs.Bytes.{leOf}
-use Rattle.live.specs.Live.{Live, Taken, freshOf, chunkOf, writtenBy, endOf}
+use Rattle.live.specs.Live.{Live, freshOf, chunkOf, writtenBy, endOf}
 use Rattle.live.specs.How.{liveOf, Good, Comes}
 use Rattle.live.specs.declared.Stream.{Stream}
 use Rattle.live.specs.declared.Chunked.{Chunked}
