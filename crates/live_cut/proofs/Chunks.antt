@@ -22,7 +22,7 @@ use Rattle.live_cut.specs.Cut.{Lent, bytesIn, streamed, Roomy}
 
 -- ---- after a refusal
 
-stays : (s : Live) (cs : List Lent) → (s .refused ≡ 0 → ⊥) → streamed s cs ≡ record { live = s; refused = s .refused; readings = [] }
+pub stays : (s : Live) (cs : List Lent) → (s .refused ≡ 0 → ⊥) → streamed s cs ≡ record { live = s; refused = s .refused; readings = [] }
 unfolding streamed
 stays s [] h = refl
 stays s (c ∷ cs) h =

@@ -35,7 +35,7 @@ use Rattle.live.proofs.Ways.{Way, again, taken, not-taken, way}
 use Rattle.live.proofs.Ways as ways
 use Rattle.live_cut.specs.Cut.{bytesIn}
 use Rattle.live_cut.specs.Facts.{AnyCut, EndOfAll, CutOfLogs, Joined, SixLeaves, RefusedAgain, DemandOfStreams}
-use Rattle.live_cut.proofs.Chunks.{taken-not-six, all-at-once}
+use Rattle.live_cut.proofs.Chunks.{stays, taken-not-six, all-at-once}
 
 pub any-cut : AnyCut
 any-cut e cs h = all-at-once (freshOf e) cs (record { none = refl; few = omega arith; small = omega arith }) h
@@ -98,7 +98,7 @@ six-leaves s b room h = by (way s b room)
     by (not-taken none e) = e
 
 pub refused-again : RefusedAgain
-refused-again s b room h = (ways.refused-again s b room h, rw (ne-eqb (s .refused) 0 h))
+refused-again s cs b room h = (stays s cs h, ways.refused-again s b room h, rw (ne-eqb (s .refused) 0 h))
 
 -- ---- demand 3
 

@@ -17,7 +17,7 @@ use Rattle.banks.specs.State.{bankAt}
 use Rattle.replay.specs.Replay.{replayOf}
 use Rattle.travel.specs.Stretch.{pinsIn, encoderAfter, Stretch}
 use Rattle.travel.specs.Demand.{Demand}
-use Rattle.live.specs.Live.{Live, freshOf, takenOf, chunkOf, endOf}
+use Rattle.live.specs.Live.{Live, Taken, freshOf, takenOf, chunkOf, endOf}
 use Rattle.live_cut.specs.Cut.{Lent, bytesIn, streamed, Roomy}
 
 -- "however a run of whole records is cut, with room enough each time", it comes to what one chunk of all its bytes does: the run of all whole
@@ -46,11 +46,11 @@ Joined = (vs ws : List ℕ) → bytesOf (leBytes 8) (vs ++ ws) ≡ bytesOf (leBy
 abbrev pub SixLeaves : Type 0
 SixLeaves = (s : Live) (bytes : List ℕ) (room : ℕ) → chunkOf s bytes room .refused ≡ 6 → chunkOf s bytes room ≡ record { live = s; refused = 6; readings = [] }
 
--- "after a refused record, a chunk or the end is answered with that refusal again .. and writes nothing"; the stream is as it was, so any
--- number of times
+-- "after a refused record, a chunk or the end is answered with that refusal again .. and writes nothing", any number of times
 abbrev pub RefusedAgain : Type 0
-RefusedAgain = (s : Live) (bytes : List ℕ) (room : ℕ) → (s .refused ≡ 0 → ⊥)
-    → (chunkOf s bytes room ≡ record { live = s; refused = s .refused; readings = [] }) × (endOf s ≡ s .refused)
+RefusedAgain = (s : Live) (cs : List Lent) (bytes : List ℕ) (room : ℕ) → (s .refused ≡ 0 → ⊥)
+    → let again : Taken = record { live = s; refused = s .refused; readings = [] } in
+    (streamed s cs ≡ again) × (chunkOf s bytes room ≡ again) × (endOf s ≡ s .refused)
 
 -- demand 3 across chunks: the last count is the one that the stream's end state has
 abbrev pub DemandOfStreams : Type 0
