@@ -3,7 +3,8 @@
 ghost use Prim.Native.Nat.{_<_, _%_, _^_};
 ghost use mathlib.Core.Path.{_≡_};
 ghost use lib.ListN.{length};
-ghost use Rattle.fold.specs.Output.{numberOf, over};
+ghost use Rattle.fold.specs.Output.{numberOf, bytesOf, over};
+ghost use Rattle.wire.specs.Bytes.{leBytes};
 ghost use Rattle.walk.specs.Turn.{written};
 ghost use Rattle.replay.specs.Replay.{replayOf};
 ghost use Rattle.made.specs.Made.{madeOf, outputOf as made-output};
@@ -12,7 +13,7 @@ ghost use Rattle.dump_read.specs.Reading.{readingOf, outputOf as entries-output
 ghost use Rattle.shrink.specs.Shrink.{smallerOf};
 ghost use Rattle.sign.specs.Sign.{signOf, signOutput};
 ghost use Rattle.writer.specs.Writer.{writtenOf, outputOf as write-output};
-ghost use Rattle.live.specs.Live.{chunkOf, writtenBy, endOf};
+ghost use Rattle.live.specs.Live.{chunkOf, endOf};
 ghost use Rattle.image.specs.Image.{imageOf};
 ghost use Rattle.stream.specs.Stream.{startOf, startedIn, On};
 ghost use Rattle.rivandoze.specs.Word.{Word};
@@ -100,7 +101,7 @@ pub extern "C" fn rvz_stream_start(edition: u64, state: &mut [u8]) -> u64
 pub extern "C" fn rvz_stream_chunk(state: &mut [u8], chunk: &[u8], out: &mut [u8]) -> u64
     ensures { λ r. ⌜ On (now (state .entry)) (λ l. Word (chunkOf l (now (chunk .entry)) (length (now (out .entry))) .refused) (length (chunkOf l (now (chunk .entry)) (length (now (out .entry))) .readings) % 2 ^ 56) r) (Word 19 0 r) ⌝ }
     ensures { λ _. ⌜ On (now (state .entry)) (λ l. now (state .exit) ≡ over (imageOf (chunkOf l (now (chunk .entry)) (length (now (out .entry))) .live)) (now (state .entry))) (now (state .exit) ≡ now (state .entry)) ⌝ }
-    ensures { λ _. ⌜ On (now (state .entry)) (λ l. now (out .exit) ≡ writtenBy (chunkOf l (now (chunk .entry)) (length (now (out .entry)))) (now (out .entry))) (now (out .exit) ≡ now (out .entry)) ⌝ }
+    ensures { λ _. ⌜ On (now (state .entry)) (λ l. now (out .exit) ≡ over (bytesOf (leBytes 8) (chunkOf l (now (chunk .entry)) (length (now (out .entry))) .readings)) (now (out .entry))) (now (out .exit) ≡ now (out .entry)) ⌝ }
 {
     let t = stream::chunk(state, chunk, out);
     word(t.refused, t.readings % 72_057_594_037_927_936)

@@ -12,8 +12,8 @@ use mir.Val as val
 use Rattle.fold.specs.Output.{over}
 use Rattle.edition.specs.Edition.{known}
 use Rattle.wire.specs.Bytes.{leOf}
-use Rattle.live.specs.Live.{Live, freshOf, chunkOf, writtenBy, endOf}
-use Rattle.live.specs.How.{liveOf, Good, Comes}
+use Rattle.live.specs.Live.{Live, freshOf, chunkOf, endOf}
+use Rattle.live.specs.How.{liveOf, Good, Comes, writtenBy}
 use Rattle.live.specs.declared.Stream.{Stream}
 use Rattle.live.specs.declared.Chunked.{Chunked}
 use Rattle.codec.specs.How.{Bytes}

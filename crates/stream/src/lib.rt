@@ -2,8 +2,9 @@
 use edition::Edition;
 ghost use mathlib.Core.Path.{_≡_};
 ghost use lib.ListN.{length};
-ghost use Rattle.fold.specs.Output.{over};
-ghost use Rattle.live.specs.Live.{chunkOf, writtenBy, endOf};
+ghost use Rattle.fold.specs.Output.{bytesOf, over};
+ghost use Rattle.wire.specs.Bytes.{leBytes};
+ghost use Rattle.live.specs.Live.{chunkOf, endOf};
 ghost use Rattle.image.specs.Image.{imageOf};
 ghost use Rattle.stream.specs.Stream.{startOf, startedIn, On};
 
@@ -30,7 +31,7 @@ pub fn start(edition: u64, state: &mut [u8]) -> u8
 pub fn chunk(state: &mut [u8], bytes: &[u8], out: &mut [u8]) -> Told
     ensures { λ r. ⌜ On (now (state .entry)) (λ l. r ≡ record { refused = chunkOf l (now (bytes .entry)) (length (now (out .entry))) .refused; readings = length (chunkOf l (now (bytes .entry)) (length (now (out .entry))) .readings) }) (r ≡ record { refused = 19; readings = 0 }) ⌝ }
     ensures { λ _. ⌜ On (now (state .entry)) (λ l. now (state .exit) ≡ over (imageOf (chunkOf l (now (bytes .entry)) (length (now (out .entry))) .live)) (now (state .entry))) (now (state .exit) ≡ now (state .entry)) ⌝ }
-    ensures { λ _. ⌜ On (now (state .entry)) (λ l. now (out .exit) ≡ writtenBy (chunkOf l (now (bytes .entry)) (length (now (out .entry)))) (now (out .entry))) (now (out .exit) ≡ now (out .entry)) ⌝ }
+    ensures { λ _. ⌜ On (now (state .entry)) (λ l. now (out .exit) ≡ over (bytesOf (leBytes 8) (chunkOf l (now (bytes .entry)) (length (now (out .entry))) .readings)) (now (out .entry))) (now (out .exit) ≡ now (out .entry)) ⌝ }
 {
     if image::is_state(state) {
         let c = live::chunk(image::load(state), bytes, out);
