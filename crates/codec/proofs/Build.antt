@@ -7,7 +7,7 @@ use Prim.Native.Nat.{ℕ, _+_, _≤_}
 use native.Mathlib.Omega.{arith}
 use lib.ListN.{length, take, length-append}
 use Rattle.laws.proofs.Truth.{both-true}
-use Rattle.codec.specs.Codec.{Has, Bytes, Lawful}
+use Rattle.codec.specs.How.{Has, Bytes, Lawful}
 use Rattle.codec.proofs.Has.{has-first, has-second, has-both, has-self, has-front, bytes-both}
 use Rattle.codec.proofs.Many.{both}
 

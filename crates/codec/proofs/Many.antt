@@ -7,7 +7,7 @@ use Prim.Native.Nat.{ℕ, zero, suc, _+_, _*_, _<_, _≤_}
 use native.Mathlib.Omega.{arith}
 use lib.ListN.{length, length-append}
 use Rattle.laws.proofs.Truth.{both-true}
-use Rattle.codec.specs.Codec.{Has, Bytes, Lawful, saveMany, loadMany, okMany, Each, FitMany}
+use Rattle.codec.specs.How.{Has, Bytes, Lawful, saveMany, loadMany, okMany, Each, FitMany}
 use Rattle.codec.proofs.Has.{has-first, has-second, has-both, bytes-both}
 
 pub both : (a b : Bool) → a ≡ true → b ≡ true → (a && b) ≡ true

@@ -1,12 +1,11 @@
 -- Both banks as four flat lists, and back; what is in range stays so.
 -- Assumes nothing.
-use mathlib.Core.Path.{_≡_, refl, sym, ap, _∙_}
+use mathlib.Core.Path.{_≡_, refl, _∙_}
 use mathlib.Core.List.{List, [], _∷_, _++_, map, append-nil}
 use Prim.Native.Nat.{ℕ, zero, suc, _+_, _*_, _^_, _<_}
 use native.Mathlib.Omega.{arith}
-use lib.ListN.{length, take, drop, getD, length-append, take-append-drop, length-take, length-drop}
+use lib.ListN.{length, take, drop, getD, length-append, length-drop}
 use lib.Seq.{take-at, drop-at, take-all, length-take-le, take-add}
-use Rattle.wire.specs.Bytes.{leOf}
 use Rattle.fold.specs.Run.{concat}
 use Rattle.encoder.specs.declared.Encoder.{Encoder}
 use Rattle.encoder.specs.Encoder as encoder
@@ -18,11 +17,12 @@ use Rattle.banks.specs.declared.State.{State}
 use Rattle.banks.specs.declared.Flat.{Flat}
 use Rattle.banks.specs.State.{noI2c, bankAt}
 use Rattle.banks.specs.How.{part, bankIn, stateOf}
-use Rattle.codec.specs.Codec.{loadWord, loadMany, Each, FitMany}
+use Rattle.codec.specs.How.{loadWord, loadMany, FitMany}
 use Rattle.codec.proofs.Each.{each-get, get-each, each-append, each-take, each-drop, take-many, drop-many}
-use Rattle.image_words.specs.Words.{encoderOf, i2cOf, FitsEncoder, FitsPwm, FitsI2c}
-use Rattle.image.specs.Image.{loadPwm, loadBank, loadOf, FitsBank, FitsState}
-use Rattle.image.specs.How.{flatOf}
+use Rattle.image_words.specs.Words.{FitsEncoder, FitsPwm, FitsI2c}
+use Rattle.image_words.specs.How.{encoderOf}
+use Rattle.image.specs.Image.{FitsBank}
+use Rattle.image.specs.How.{FitsState, loadPwm, loadOf, flatOf}
 
 -- ---- the lists of a state
 
@@ -66,13 +66,13 @@ two-of (x ∷ y ∷ z ∷ l) d h = absurd (omega (arith, h))
 -- a state of two whole banks is what its lists make
 pub state-back : (s : State) → FitsState s → stateOf (laidOut s) ≡ s
 unfolding stateOf concat
-state-back s f = go (s .banks) (f .two) (f .each 0 (omega arith)) (f .each 1 (omega arith))
+state-back s f = go (s .banks) (f .0) (f .1 0 (omega arith)) (f .1 1 (omega arith))
   where
     go : (l : List Bank) → length l ≡ 2 → FitsBank (bankAt 0 (record { banks = l })) → FitsBank (bankAt 1 (record { banks = l })) → stateOf (laidOut (record { banks = l })) ≡ record { banks = l }
     go [] h a b = absurd (omega (arith, h))
     go (x ∷ []) h a b = absurd (omega (arith, h))
     go (x ∷ y ∷ []) h a b =
-        rw (first-part 10 (x .encoders) (y .encoders) (a .ten), second-part 10 (x .encoders) (y .encoders) (a .ten) (b .ten), first-part 20 (x .pwms) (y .pwms) (a .twenty), second-part 20 (x .pwms) (y .pwms) (a .twenty) (b .twenty))
+        rw (first-part 10 (x .encoders) (y .encoders) (a .encoders .0), second-part 10 (x .encoders) (y .encoders) (a .encoders .0) (b .encoders .0), first-part 20 (x .pwms) (y .pwms) (a .pwms .0), second-part 20 (x .pwms) (y .pwms) (a .pwms .0) (b .pwms .0))
     go (x ∷ y ∷ z ∷ l) h a b = absurd (omega (arith, h))
 
 -- four lists are those of the state that they make
@@ -94,10 +94,10 @@ flat-back f z i = record {
 -- ---- in range
 
 fresh-encoder : FitsEncoder encoder.fresh
-fresh-encoder = record { count = omega arith; cnfg = omega arith; stat = omega arith; pins = omega arith }
+fresh-encoder = (omega arith, omega arith, omega arith, omega arith)
 
 fresh-pwm : FitsPwm pwm.fresh
-fresh-pwm = record { max = omega arith; cmp = omega arith; cnfg = refl; cs = omega arith; counter = omega arith; short = omega arith }
+fresh-pwm = (omega arith, omega arith, refl, omega arith, omega arith, omega arith)
 
 pub record FitsLists (f : Flat) : Type 0 where
   pub selects : FitMany (λ v. v < 2 ^ 40) 2 (f .selects)
@@ -107,7 +107,7 @@ pub record FitsLists (f : Flat) : Type 0 where
 
 pub lists-fit : (s : State) → FitsState s → FitsLists (laidOut s)
 unfolding concat
-lists-fit s f = go (s .banks) (f .two) (f .each 0 (omega arith)) (f .each 1 (omega arith))
+lists-fit s f = go (s .banks) (f .0) (f .1 0 (omega arith)) (f .1 1 (omega arith))
   where
     go : (l : List Bank) → length l ≡ 2 → FitsBank (bankAt 0 (record { banks = l })) → FitsBank (bankAt 1 (record { banks = l })) → FitsLists (laidOut (record { banks = l }))
     go [] h a b = absurd (omega (arith, h))
@@ -115,8 +115,8 @@ lists-fit s f = go (s .banks) (f .two) (f .each 0 (omega arith)) (f .each 1 (ome
     go (x ∷ y ∷ []) h a b = record {
       selects = (refl, (a .select, (b .select, tt)));
       i2cs = (refl, (a .i2c, (b .i2c, tt)));
-      encoders = (length-append (x .encoders) (y .encoders ++ []) ∙ rw (a .ten, append-nil (y .encoders), b .ten), each-append FitsEncoder (x .encoders) (y .encoders ++ []) (get-each FitsEncoder (x .encoders) encoder.fresh (a .encoder)) (each-append FitsEncoder (y .encoders) [] (get-each FitsEncoder (y .encoders) encoder.fresh (b .encoder)) tt));
-      pwms = (length-append (x .pwms) (y .pwms ++ []) ∙ rw (a .twenty, append-nil (y .pwms), b .twenty), each-append FitsPwm (x .pwms) (y .pwms ++ []) (get-each FitsPwm (x .pwms) pwm.fresh (a .pwm)) (each-append FitsPwm (y .pwms) [] (get-each FitsPwm (y .pwms) pwm.fresh (b .pwm)) tt));
+      encoders = (length-append (x .encoders) (y .encoders ++ []) ∙ rw (a .encoders .0, append-nil (y .encoders), b .encoders .0), each-append FitsEncoder (x .encoders) (y .encoders ++ []) (get-each FitsEncoder (x .encoders) encoder.fresh (a .encoders .1)) (each-append FitsEncoder (y .encoders) [] (get-each FitsEncoder (y .encoders) encoder.fresh (b .encoders .1)) tt));
+      pwms = (length-append (x .pwms) (y .pwms ++ []) ∙ rw (a .pwms .0, append-nil (y .pwms), b .pwms .0), each-append FitsPwm (x .pwms) (y .pwms ++ []) (get-each FitsPwm (x .pwms) pwm.fresh (a .pwms .1)) (each-append FitsPwm (y .pwms) [] (get-each FitsPwm (y .pwms) pwm.fresh (b .pwms .1)) tt));
     }
     go (x ∷ y ∷ z ∷ l) h a b = absurd (omega (arith, h))
 
@@ -124,7 +124,7 @@ pub sized : (f : Flat) → FitsLists f → Sized f
 sized f z = record { selects = z .selects .0; encoders = z .encoders .0; pwms = z .pwms .0; i2cs = z .i2cs .0 }
 
 fresh-i2c : FitsI2c noI2c
-fresh-i2c = record { addr = omega arith; cntl = omega arith; answer = omega arith; failure = omega arith }
+fresh-i2c = (omega arith, omega arith, omega arith, omega arith)
 
 part-long : {A : Type 0} (n k : ℕ) (l : List A) → k < 2 → length l ≡ n + n → length (part n k l) ≡ n
 part-long n zero l h e = let z : n * 0 ≡ 0 = omega arith in rw z (length-take-le n l (omega arith))
@@ -133,16 +133,14 @@ part-long n (suc (suc k)) l h e = absurd (omega arith)
 
 pub state-fits : (f : Flat) → FitsLists f → FitsState (stateOf f)
 unfolding stateOf
-state-fits f z = record { two = refl; each = by }
+state-fits f z = (refl, by)
   where
     one : (k : ℕ) → k < 2 → FitsBank (bankIn k f)
     one k h = record {
       select = each-get (λ v. v < 2 ^ 40) (f .selects) 0 (omega arith) (z .selects .1) k;
       i2c = each-get FitsI2c (f .i2cs) noI2c fresh-i2c (z .i2cs .1) k;
-      ten = part-long 10 k (f .encoders) h (z .encoders .0);
-      encoder = each-get FitsEncoder (part 10 k (f .encoders)) encoder.fresh fresh-encoder (each-take FitsEncoder 10 (drop (10 * k) (f .encoders)) (each-drop FitsEncoder (10 * k) (f .encoders) (z .encoders .1)));
-      twenty = part-long 20 k (f .pwms) h (z .pwms .0);
-      pwm = each-get FitsPwm (part 20 k (f .pwms)) pwm.fresh fresh-pwm (each-take FitsPwm 20 (drop (20 * k) (f .pwms)) (each-drop FitsPwm (20 * k) (f .pwms) (z .pwms .1)));
+      encoders = (part-long 10 k (f .encoders) h (z .encoders .0), each-get FitsEncoder (part 10 k (f .encoders)) encoder.fresh fresh-encoder (each-take FitsEncoder 10 (drop (10 * k) (f .encoders)) (each-drop FitsEncoder (10 * k) (f .encoders) (z .encoders .1))));
+      pwms = (part-long 20 k (f .pwms) h (z .pwms .0), each-get FitsPwm (part 20 k (f .pwms)) pwm.fresh fresh-pwm (each-take FitsPwm 20 (drop (20 * k) (f .pwms)) (each-drop FitsPwm (20 * k) (f .pwms) (z .pwms .1))));
     }
 
     by : (k : ℕ) → k < 2 → FitsBank (bankAt k (stateOf f))

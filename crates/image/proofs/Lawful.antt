@@ -1,37 +1,36 @@
 -- The codec of a stream's state, of its parts.
 -- Assumes nothing.
 use mathlib.Core.Path.{_≡_, refl, sym, ap, _∙_, subst}
-use mathlib.Core.Bool.{Bool, true, false, _&&_, _||_}
-use mathlib.Core.List.{List, [], _∷_, _++_}
-use Prim.Native.Nat.{ℕ, zero, suc, _+_, _*_, _-_, _/_, _%_, _^_, _<_, _≤_}
+use mathlib.Core.Bool.{Bool, true, false, cond, _&&_, _||_}
+use mathlib.Core.List.{List, [], _∷_}
+use Prim.Native.Nat.{ℕ, zero, suc, _+_, _*_, _-_, _/_, _%_, _^_, _<_}
 use native.Mathlib.Omega.{arith}
-use native.Mathlib.Nat.{mod-lt, mod-eq-of-lt}
-use lib.ListN.{length, take, drop, replicate}
+use lib.ListN.{length, take, replicate}
 use lib.Seq.{length-take-le}
 use lib.Dec.{ltb, leb, eqb}
-use borrow.Author.Tests.{le-leb, lt-leb, leb-true, ne-eqb, ltb-true, ltb-false, lt-ltb}
+use borrow.Author.Tests.{le-leb, lt-leb, leb-true, eq-eqb, ne-eqb, eqb-true, ltb-true, ltb-false, lt-ltb}
 use Rattle.laws.proofs.Truth.{both-true}
-use Rattle.wire.specs.Bytes.{byte, leOf, leBytes}
+use Rattle.wire.specs.Bytes.{byte, leOf}
 use Rattle.edition.specs.Edition.{known}
 use Rattle.encoder.specs.declared.Encoder.{Encoder}
 use Rattle.pwm.specs.declared.Pwm.{Pwm}
 use Rattle.pwm.specs.Facts.{Short}
-use Rattle.divider.specs.Divider.{dividerOf}
 use Rattle.i2c.specs.declared.I2c.{I2c}
 use Rattle.banks.specs.declared.Flat.{Flat}
 use Rattle.banks.specs.How.{stateOf}
 use Rattle.live.specs.Live.{Live}
-use Rattle.codec.specs.Codec.{Lawful, Number, saveWord, loadWord, okWord, saveMany, loadMany, okMany, Each, FitMany}
+use Rattle.codec.specs.How.{Lawful, Number, loadWord, okWord, saveMany, loadMany, okMany, Each, FitMany}
 use Rattle.codec.proofs.Word.{word-lawful, any-number, byte-lawful}
 use Rattle.codec.proofs.Many.{many-lawful, both}
 use Rattle.codec.proofs.Build.{then-lawful, such-lawful, struct-lawful}
 use Rattle.codec.proofs.Each.{each-get, get-each, each-take, each-append}
-use Rattle.image_words.specs.Words.{encoderNumber, encoderOf, isEncoder, FitsEncoder, i2cNumber, i2cOf, isI2c, FitsI2c, isSelect, isShort, FitsPwm}
-use Rattle.image_words.proofs.Numbers.{divider-small}
+use Rattle.image_words.specs.Words.{FitsEncoder, FitsI2c, FitsPwm}
+use Rattle.image_words.specs.How.{encoderOf, isEncoder, i2cOf, isI2c, isSelect, isShort}
+use Rattle.image_words.proofs.Laid.{remainder-small}
 use Rattle.image_words.proofs.Digits.{select-number, i2c-number, encoder-number, FitsRegisters, registers-number, FitsWave, wave-number}
-use Rattle.image.specs.Image.{headNumber, savePwm, loadPwm, okPwm, imageOf, loadOf, isRefusal, isHead, isCarried, isState, Fits}
-use Rattle.image.specs.How.{flatOf}
-use Rattle.image.proofs.Flats.{laidOut, selectsOf, i2csOf, encodersOf, pwmsOf, state-back, flat-back, FitsLists, lists-fit, sized, state-fits}
+use Rattle.image.specs.Image.{Fits}
+use Rattle.image.specs.How.{headNumber, savePwm, wordsOf, loadPwm, okPwm, isRefusal, isHead}
+use Rattle.image.proofs.Flats.{laidOut, state-back, flat-back, FitsLists, lists-fit, sized, state-fits}
 use Rattle.image.proofs.Pads.{padded, filled, filled-back, filled-long, filled-padded, take-filled}
 
 -- ---- a PWM channel
@@ -44,12 +43,6 @@ is-short : (p : Pwm) → isShort p ≡ true → Short p
 unfolding isShort
 is-short p h = leb-true _ _ h
 
-remainder-small : (p : Pwm) → FitsPwm p → p .wave .remainder < 256
-remainder-small p f =
-    let a = f .short in
-    let b = divider-small (p .registers .cs) (f .cs) in
-    omega arith
-
 pub pwm-lawful : Lawful 16 savePwm loadPwm okPwm FitsPwm
 pwm-lawful =
     struct-lawful
@@ -57,8 +50,8 @@ pwm-lawful =
     (λ p. p)
     (λ p f. refl)
     (λ p f. refl)
-    (λ p f. ((record { max = f .max; cmp = f .cmp; cnfg = f .cnfg; cs = f .cs }, record { counter = f .counter; remainder = remainder-small p f }), short-is p (f .short)))
-    (λ p f. record { max = f .0 .0 .max; cmp = f .0 .0 .cmp; cnfg = f .0 .0 .cnfg; cs = f .0 .0 .cs; counter = f .0 .1 .counter; short = is-short p (f .1) })
+    (λ p f. ((record { max = f .0; cmp = f .1; cnfg = f .2; cs = f .3 }, record { counter = f .4; remainder = remainder-small p f }), short-is p (f .5)))
+    (λ p f. (f .0 .0 .max, f .0 .0 .cmp, f .0 .0 .cnfg, f .0 .0 .cs, f .0 .1 .counter, is-short p (f .1)))
     (such-lawful isShort
     (struct-lawful
     {Ranges = λ (p : Pwm). FitsRegisters (p .registers) × FitsWave (p .wave)}
@@ -101,6 +94,18 @@ head-small r h e p =
       held = ltb-true h 16 (c .0);
       edition = omega (arith, leb-true e 4 (both-true (leb 1 e) (leb e 4) (a .0) .1));
     }
+
+-- up to 15 bytes, and none after a refused record
+held-below : (b : Bool) (h : ℕ) → (ltb h 16 && (b || eqb h 0)) ≡ true → h < cond b 16 1
+held-below true h p = ltb-true h 16 (both-true (ltb h 16) true p .0)
+held-below false h p = omega (arith, eqb-true h 0 (both-true (ltb h 16) (eqb h 0) p .1))
+
+below-held : (b : Bool) (h : ℕ) → h < cond b 16 1 → (ltb h 16 && (b || eqb h 0)) ≡ true
+below-held true h l = both (ltb h 16) true (lt-ltb h 16 l) refl
+below-held false h l = both (ltb h 16) (eqb h 0) (lt-ltb h 16 (omega arith)) (eq-eqb h 0 (omega arith))
+
+pub head-fits : (l : Live) → Fits l → isHead (l .refused) (length (l .carried)) (l .edition) ≡ true
+head-fits l f = both _ _ (f .edition) (both _ _ (f .refused) (below-held (eqb (l .refused) 0) (length (l .carried)) (f .held)))
 
 abbrev pub Head : Type 0
 Head = ℕ × (ℕ × ℕ)
@@ -194,7 +199,7 @@ unfolding FitsParts
 lists-of y f = record { selects = f .1 .1 .1 .0; i2cs = f .1 .1 .1 .1 .0; encoders = f .1 .1 .1 .1 .1 .0; pwms = f .1 .1 .1 .1 .1 .1 }
 
 whole-back : (l : Live) → Fits l → wholeOf (partsOf l) ≡ l
-whole-back l f i = record { edition = l .edition; state = state-back (l .state) (f .state) i; carried = take-filled (l .carried) i; applied = l .applied; refused = l .refused }
+whole-back l f i = record { edition = l .edition; state = state-back (l .state) (f .banks) i; carried = take-filled (l .carried) i; applied = l .applied; refused = l .refused }
 
 parts-back : (y : Parts) → FitsPadded y → partsOf (wholeOf y) ≡ y
 unfolding FitsParts
@@ -215,24 +220,29 @@ filled-bytes l h = each-append (λ v. v < 256) l (replicate (16 - length l) 0) (
 parts-fit : (l : Live) → Fits l → FitsPadded (partsOf l)
 unfolding FitsParts
 parts-fit l f =
-    let held = head-small (l .refused) (length (l .carried)) (l .edition) (f .head) .held in
-    let lists = lists-fit (l .state) (f .state) in
-    ((f .head, (f .applied, ((filled-long (l .carried) held, filled-bytes (l .carried) (f .carried)), (lists .selects, (lists .i2cs, (lists .encoders, lists .pwms)))))), filled-padded (l .carried) held)
+    let head = head-fits l f in
+    let held = head-small (l .refused) (length (l .carried)) (l .edition) head .held in
+    let lists = lists-fit (l .state) (f .banks) in
+    ((head, (f .applied, ((filled-long (l .carried) held, filled-bytes (l .carried) (f .carried)), (lists .selects, (lists .i2cs, (lists .encoders, lists .pwms)))))), filled-padded (l .carried) held)
 
 whole-fits : (y : Parts) → FitsPadded y → Fits (wholeOf y)
 unfolding FitsParts
 whole-fits y f =
     let held = head-small (y .0 .0) (y .0 .1 .0) (y .0 .1 .1) (f .0 .0) .held in
     let long : length (take (y .0 .1 .0) (y .1 .1 .0)) ≡ y .0 .1 .0 = length-take-le (y .0 .1 .0) (y .1 .1 .0) (omega (arith, f .0 .1 .1 .0 .0)) in
+    let a = both-true (known (y .0 .1 .1)) _ (f .0 .0) in
+    let b = both-true (isRefusal (y .0 .0)) _ (a .1) in
     record {
-      head = rw long (f .0 .0);
+      edition = a .0;
+      refused = b .0;
+      held = rw long (held-below (eqb (y .0 .0) 0) (y .0 .1 .0) (b .1));
       applied = f .0 .1 .0;
       carried = each-get (λ v. v < 256) (take (y .0 .1 .0) (y .1 .1 .0)) 0 (omega arith) (each-take (λ v. v < 256) (y .0 .1 .0) (y .1 .1 .0) (f .0 .1 .1 .0 .1));
-      state = state-fits (flatIn y) (lists-of y (f .0));
+      banks = state-fits (flatIn y) (lists-of y (f .0));
     }
 
-pub stream-lawful : Lawful 864 imageOf loadAt okAt Fits
-unfolding imageOf FitsParts
+pub stream-lawful : Lawful 864 wordsOf loadAt okAt Fits
+unfolding wordsOf FitsParts
 stream-lawful =
     struct-lawful partsOf wholeOf whole-back parts-back parts-fit whole-fits
     (such-lawful (λ (y : Parts). padded (y .0 .1 .0) (y .1 .1 .0))

@@ -3,5 +3,7 @@ pub mod Flats
 pub mod Pads
 pub mod Lawful
 pub mod Passing
-pub mod Proved
+pub mod Laid
+pub mod Loaded
 pub mod Whole
+pub mod Proved

@@ -11,9 +11,9 @@ use lib.Seq.{ext-getD, getD-drop, length-take-le, take-at, getD-append-add}
 use lib.Dec.{ltb, eqb}
 use borrow.Author.Tests.{lt-ltb, le-ltb, ltb-true, ltb-false, eqb-true}
 use Rattle.wire.specs.Bytes.{byte}
-use Rattle.codec.specs.Codec.{loadMany, okMany}
+use Rattle.codec.specs.How.{loadMany, okMany}
 use Rattle.codec.proofs.Each.{byte-many, many-each, each-many, length-many}
-use Rattle.image.specs.Image.{isCarried}
+use Rattle.image.specs.How.{isCarried}
 
 -- sixteen bytes whose held ones are at the front
 abbrev pub padded : ℕ → List ℕ → Bool

@@ -5,19 +5,17 @@ use mathlib.Core.Bool.{Bool, true, false, _&&_}
 use mathlib.Core.List.{List}
 use Prim.Native.Nat.{ℕ, zero, suc, _+_, _/_, _%_, _^_, _≤_, _<_}
 use native.Mathlib.Omega.{arith}
-use lib.ListN.{length, take, drop, getD, length-drop}
+use lib.ListN.{length, take, drop, length-drop}
 use lib.Seq.{ext-getD, getD-take, getD-drop, length-take-le, take-take}
 use lib.Dec.{leb}
 use borrow.Author.Tests.{le-leb, leb-true}
 use Rattle.laws.proofs.Truth.{both-true}
 use Rattle.wire.specs.Bytes.{byte, leOf}
-use Rattle.codec.specs.Codec.{okWord, loadMany, okMany}
+use Rattle.codec.specs.How.{okWord, loadMany, okMany}
 use Rattle.codec.proofs.Many.{both}
 use Rattle.codec.proofs.Each.{byte-many, length-many}
-use Rattle.banks.specs.How.{stateOf}
-use Rattle.image_words.specs.Words.{isSelect, isI2c, isEncoder}
-use Rattle.image.specs.Image.{okPwm, loadOf, isHead, isCarried, isState}
-use Rattle.image.specs.How.{flatOf}
+use Rattle.image_words.specs.How.{isSelect, isI2c, isEncoder}
+use Rattle.image.specs.How.{okPwm, loadOf, isHead, isCarried, isState, flatOf}
 use Rattle.image.proofs.Flats.{state-loaded}
 use Rattle.image.proofs.Pads.{padded, padded-there}
 use Rattle.image.proofs.Lawful.{head-small, loadAt, okAt}

@@ -12,17 +12,15 @@ use lib.Seq.{sets, length-sets, length-take-le, take-suc, take-all}
 use lib.Dec.{ltb, eqb}
 use Rattle.laws.proofs.Each.{long-field}
 use Rattle.wire.specs.Bytes.{byte, leOf, leBytes}
-use Rattle.codec.specs.Codec.{saveWord, loadWord, okWord, saveMany, loadMany, okMany}
+use Rattle.codec.specs.How.{saveWord, loadWord, okWord, saveMany, loadMany, okMany}
 use Rattle.codec.proofs.Loops.{loaded, loaded-none, loaded-more, loaded-all, tested-none, tested-more, saved, saved-none, saved-more, saved-all, sets-append}
 use Rattle.encoder.specs.declared.Encoder.{Encoder}
 use Rattle.pwm.specs.declared.Pwm.{Pwm}
 use Rattle.i2c.specs.declared.I2c.{I2c}
 use Rattle.banks.specs.declared.Flat.{Flat}
-use Rattle.image_words.specs.Words.{i2cNumber, encoderOf, isEncoder, pwmOf, isRegisters, isWave, isShort, registersNumber, waveNumber}
-use Rattle.image_words.specs.How.{lowNumber, isQuick}
+use Rattle.image_words.specs.How.{i2cNumber, lowNumber, encoderOf, isEncoder, pwmOf, isRegisters, isWave, isShort, isQuick, registersNumber, waveNumber}
 use Rattle.image_words.proofs.Numbers.{quick-short}
-use Rattle.image.specs.Image.{savePwm, loadPwm, okPwm, isCarried}
-use Rattle.image.specs.How.{withEncoders, withPwms, okWave, okQuick}
+use Rattle.image.specs.How.{savePwm, loadPwm, okPwm, isCarried, withEncoders, withPwms, okWave, okQuick}
 
 -- ---- testing
 

@@ -3,38 +3,36 @@
 use mathlib.Core.Path.{_≡_, refl, sym, ap, _∙_, subst}
 use mathlib.Core.Bool.{Bool, true, false, _&&_, and-true}
 use mathlib.Core.List.{List, [], _∷_, _++_, append-assoc}
-use Prim.Native.Nat.{ℕ, _+_, _*_, _/_, _%_, _^_, _≤_, _<_}
+use Prim.Native.Nat.{ℕ, _+_, _/_, _%_, _^_, _≤_, _<_}
 use native.Mathlib.Omega.{arith}
 use lib.ListN.{length, take, drop, length-append, take-append-drop}
 use lib.Seq.{sets, sets-eq, length-take-le}
-use lib.Dec.{ltb, leb}
+use lib.Dec.{ltb}
 use borrow.Author.Tests.{le-leb, lt-leb}
 use Rattle.wire.specs.Bytes.{byte, leOf, leBytes}
-use Rattle.codec.specs.Codec.{Bytes, saveWord, loadWord, okWord, saveMany, loadMany, okMany, Each}
+use Rattle.codec.specs.How.{Bytes, saveWord, loadWord, okWord, saveMany, loadMany, okMany, Each}
 use Rattle.codec.proofs.Loops.{sets-append, many-long}
 use Rattle.codec.proofs.Each.{length-many}
 use Rattle.encoder.specs.declared.Encoder.{Encoder}
-use Rattle.pwm.specs.declared.Pwm.{Pwm}
 use Rattle.i2c.specs.declared.I2c.{I2c}
-use Rattle.bank.proofs.Full.{Full}
 use Rattle.banks.specs.declared.State.{State}
 use Rattle.banks.specs.declared.Flat.{Flat}
 use Rattle.banks.specs.How.{stateOf}
 use Rattle.banks.proofs.Whole.{Whole}
-use Rattle.live.specs.Live.{Live}
 use Rattle.live.specs.declared.Stream.{Stream}
 use Rattle.live.specs.How.{liveOf}
-use Rattle.image_words.specs.Words.{i2cNumber, i2cOf, isI2c, encoderNumber, encoderOf, isEncoder, FitsEncoder, isRegisters, isSelect}
-use Rattle.image_words.specs.How.{lowNumber}
+use Rattle.image_words.specs.Words.{FitsEncoder}
+use Rattle.image_words.specs.How.{i2cNumber, i2cOf, isI2c, encoderNumber, lowNumber, encoderOf, isEncoder, isRegisters, isSelect}
 use Rattle.image_words.proofs.Numbers.{low-number}
-use Rattle.image.specs.Image.{headNumber, savePwm, loadPwm, okPwm, imageOf, loadOf, isHead, isCarried, isState, FitsState, Fits}
-use Rattle.image.specs.How.{withEncoders, withPwms, flatOf, okWave, okQuick, Loads, Saves}
+use Rattle.image.specs.Image.{imageOf}
+use Rattle.image.specs.How.{FitsState, headNumber, savePwm, wordsOf, loadPwm, loadOf, isHead, isCarried, isState, withEncoders, withPwms, flatOf, okWave, okQuick, Loads, Saves}
 use Rattle.image.proofs.Flats.{laidOut, flat-back, state-loaded, lists-fit, FitsLists, Sized}
 use Rattle.image.proofs.Pads.{filled, zeros-past}
 use Rattle.image.proofs.Steps.{pwms-tested}
-use Rattle.image.proofs.Lawful.{head-small, stream-lawful}
+use Rattle.image.proofs.Lawful.{head-small, head-fits}
 use Rattle.image.proofs.Passing.{passed, loads-same}
-use Rattle.image.proofs.Proved.{loads-images}
+use Rattle.image.proofs.Laid.{words-laid}
+use Rattle.image.proofs.Loaded.{image-long, stands}
 
 -- ---- the test
 
@@ -81,7 +79,7 @@ pub second-room : (s : List ℕ) → isState s ≡ true → 8 + 8 ≤ length s
 second-room s h = omega (arith, all-room s h)
 
 whole-of : (s : State) → FitsState s → Whole s
-whole-of s f = record { two = f .two; each = λ k h. let b = f .each k h in record { ten = b .ten; twenty = b .twenty; short = λ i. b .pwm i .short } }
+whole-of s f = record { two = f .0; each = λ k h. let b = f .1 k h in record { ten = b .encoders .0; twenty = b .pwms .0; short = λ i. b .pwms .1 i .5 } }
 
 abbrev made : ℕ → Flat → List ℕ → ℕ → Stream
 made v f a n = record { edition = v / 2 ^ 16; flat = f; carried = a; held = v / 2 ^ 8 % 2 ^ 8; applied = n; refused = v % 2 ^ 8 }
@@ -95,7 +93,7 @@ loads-made s b h =
     let p = passed s h in
     record {
       live = live-made s (p .long) (p .held);
-      whole = subst Whole (sym (state-loaded s)) (whole-of (loadOf s .state) (loads-images s b h .fits .state));
+      whole = subst Whole (sym (state-loaded s)) (whole-of (loadOf s .state) (stands s b h .0 .banks));
       few = p .held;
       zeros = zeros-past (leOf 8 s 0 / 2 ^ 8 % 2 ^ 8) (loadMany 1 byte 16 s 16) (length-many 1 byte s 16 16) (p .held) (p .pads);
     }
@@ -109,7 +107,7 @@ pub held-room : (x : Stream) → Saves x → x .held < 16
 held-room x s = s .few
 
 pub edition-room : (x : Stream) → Saves x → x .edition < 5
-edition-room x s = head-small (x .refused) (length (take (x .held) (x .carried))) (x .edition) (s .fits .head) .edition
+edition-room x s = head-small (x .refused) (length (take (x .held) (x .carried))) (x .edition) (head-fits (liveOf x) (s .fits)) .edition
 
 abbrev listsIn : Flat → List ℕ
 listsIn f = saveMany (leBytes 8) (f .selects) ++ (saveMany (saveWord i2cNumber) (f .i2cs) ++ (saveMany (saveWord encoderNumber) (f .encoders) ++ saveMany savePwm (f .pwms)))
@@ -119,8 +117,8 @@ pieces a a′ b c c′ t t′ p q r = rw (p, q, r)
 
 -- the image by the flat arrays
 image-flat : (x : Stream) → Saves x → Sized (x .flat) → length (x .carried) ≡ 16
-    → imageOf (liveOf x) ≡ leBytes 8 (headNumber (x .refused) (x .held) (x .edition)) ++ (leBytes 8 (x .applied) ++ (x .carried ++ listsIn (x .flat)))
-unfolding imageOf
+    → wordsOf (liveOf x) ≡ leBytes 8 (headNumber (x .refused) (x .held) (x .edition)) ++ (leBytes 8 (x .applied) ++ (x .carried ++ listsIn (x .flat)))
+unfolding wordsOf
 image-flat x s z l =
     let few = s .few in
     let long : length (take (x .held) (x .carried)) ≡ x .held = length-take-le (x .held) (x .carried) (omega arith) in
@@ -154,7 +152,7 @@ pub stream-saved : (x : Stream) (n : ℕ) (o₀ o₁ o₂ o₃ o₄ o₅ o₆ : 
 stream-saved x n o₀ o₁ o₂ o₃ o₄ o₅ o₆ s room pn p₁ p₂ p₃ lc p₄ ls li p₅ le p₆ lp =
     let f = x .flat in
     let z : Sized f = record { selects = ls; encoders = le; pwms = lp; i2cs = li } in
-    let fits : FitsLists f = subst FitsLists (flat-back f z) (lists-fit (stateOf f) (s .fits .state)) in
+    let fits : FitsLists f = subst FitsLists (flat-back f z) (lists-fit (stateOf f) (s .fits .banks)) in
     let S = saveMany (leBytes 8) (f .selects) in
     let C = saveMany (saveWord i2cNumber) (f .i2cs) in
     let E = saveMany (saveWord lowNumber) (f .encoders) in
@@ -166,9 +164,5 @@ stream-saved x n o₀ o₁ o₂ o₃ o₄ o₅ o₆ s room pn p₁ p₂ p₃ lc 
     let Q = saveMany savePwm (f .pwms) in
     six-puts o₀ o₁ o₂ o₃ o₄ o₅ o₆ H (leBytes 8 (x .applied)) (x .carried) (S ++ C) E Q (p₁ ∙ ap (λ (m : ℕ). sets o₀ 0 (leBytes 8 m)) pn) p₂ p₃ p₄ p₅ p₆ refl refl lc long-sc long-e
     ∙ ap (λ (t : List ℕ). sets o₀ 0 (H ++ (leBytes 8 (x .applied) ++ (x .carried ++ t)))) (append-assoc S C (E ++ Q) ∙ ap (λ (t : List ℕ). S ++ (C ++ (t ++ Q))) (lows (f .encoders) (fits .encoders .1)))
-    ∙ ap (sets o₀ 0) (sym (image-flat x s z lc))
-    ∙ whole-image o₀ (imageOf (liveOf x)) (stream-lawful .long (liveOf x) (s .fits)) room
-
--- what was loaded can be saved
-pub saves-loaded : (s : List ℕ) (x : Stream) → Bytes s → isState s ≡ true → Loads s x → Saves x
-saves-loaded s x b h l = record { fits = subst Fits (sym (l .live)) (loads-images s b h .fits); few = l .few; zeros = l .zeros }
+    ∙ ap (sets o₀ 0) (sym (image-flat x s z lc) ∙ words-laid (liveOf x) (s .fits))
+    ∙ whole-image o₀ (imageOf (liveOf x)) (image-long (liveOf x) (s .fits)) room

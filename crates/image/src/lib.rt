@@ -23,13 +23,12 @@ ghost use Prim.Native.Nat.{_+_, _<_, _≤_};
 ghost use lib.ListN.{length, drop};
 ghost use lib.Seq.{sets};
 ghost use Rattle.wire.specs.Bytes.{byte};
-ghost use Rattle.codec.specs.Codec.{saveWord, okWord, saveMany, loadMany, okMany};
+ghost use Rattle.codec.specs.How.{saveWord, okWord, saveMany, loadMany, okMany};
 ghost use Rattle.live.specs.How.{liveOf};
 ghost use Rattle.wire.specs.Bytes.{leBytes};
-ghost use Rattle.image_words.specs.Words.{i2cNumber, isEncoder, isRegisters};
-ghost use Rattle.image_words.specs.How.{lowNumber};
-ghost use Rattle.image.specs.Image.{size, headNumber, savePwm, imageOf, isRefusal, isHead, isCarried, isState};
-ghost use Rattle.image.specs.How.{withEncoders, withPwms, flatOf, okWave, okQuick, Loads, Saves};
+ghost use Rattle.image_words.specs.How.{i2cNumber, lowNumber, isEncoder, isRegisters};
+ghost use Rattle.image.specs.Image.{size, imageOf};
+ghost use Rattle.image.specs.How.{headNumber, savePwm, isRefusal, isHead, isCarried, isState, withEncoders, withPwms, flatOf, okWave, okQuick, Loads, Saves};
 
 // ---- whether bytes are a state
 

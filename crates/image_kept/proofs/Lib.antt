@@ -1,2 +1,2 @@
 mod Blocks
-pub mod Proved
+pub mod Keeping

@@ -1,1 +1,1 @@
-// Every state that records lead to has an image: specs/ states it and proofs/ proves it. There is no code.
+// Every state that records lead to has an image: proofs/ proves it, for the stream. There is no code.

@@ -10,7 +10,7 @@ use lib.IntN.{pos}
 use borrow.Author.Tests.{lt-ltb, ltb-true}
 use Rattle.laws.proofs.Truth.{both-true}
 use Rattle.bits.specs.Bits.{num}
-use Rattle.codec.specs.Codec.{Number}
+use Rattle.codec.specs.How.{Number}
 use Rattle.codec.proofs.Many.{both}
 use Rattle.encoder.specs.Count.{pattern, signed}
 use Rattle.encoder.specs.declared.Encoder.{Encoder}
@@ -22,7 +22,8 @@ use Rattle.i2c.specs.I2c.{stateOf}
 use Rattle.wire.specs.Record.{pwmCnfg}
 use Rattle.pwm.specs.declared.Registers.{Registers}
 use Rattle.pwm.specs.declared.Wave.{Wave}
-use Rattle.image_words.specs.Words.{registersNumber, registersOf, isRegisters, waveNumber, waveOf, isWave, isSelect, phaseOf, i2cNumber, i2cOf, isI2c, FitsI2c, encoderNumber, encoderOf, isEncoder, FitsEncoder}
+use Rattle.image_words.specs.Words.{FitsI2c, FitsEncoder}
+use Rattle.image_words.specs.How.{registersNumber, registersOf, isRegisters, waveNumber, waveOf, isWave, isSelect, phaseOf, i2cNumber, i2cOf, isI2c, encoderNumber, encoderOf, isEncoder}
 use Rattle.image_words.proofs.Numbers.{state-small, cnfg-small}
 
 -- ---- a bit
@@ -115,11 +116,11 @@ module _ (e : Encoder) (f : FitsEncoder e) where
       let p = pattern-lt (e .count) in
       let q = one (e .seen) in
       λ i. record {
-        count = (ap signed (digit-a (pattern (e .count)) (e .cnfg) (e .stat) (e .pins) (num (e .seen)) n refl p (f .cnfg) (f .stat) (f .pins) q) ∙ wrap-fits (e .count) (f .count)) i;
-        cnfg = digit-b (pattern (e .count)) (e .cnfg) (e .stat) (e .pins) (num (e .seen)) n refl p (f .cnfg) (f .stat) (f .pins) q i;
-        stat = digit-c (pattern (e .count)) (e .cnfg) (e .stat) (e .pins) (num (e .seen)) n refl p (f .cnfg) (f .stat) (f .pins) q i;
-        pins = digit-d (pattern (e .count)) (e .cnfg) (e .stat) (e .pins) (num (e .seen)) n refl p (f .cnfg) (f .stat) (f .pins) q i;
-        seen = is (e .seen) (n / 2 ^ 56) (digit-f (pattern (e .count)) (e .cnfg) (e .stat) (e .pins) (num (e .seen)) n refl p (f .cnfg) (f .stat) (f .pins) q) i;
+        count = (ap signed (digit-a (pattern (e .count)) (e .cnfg) (e .stat) (e .pins) (num (e .seen)) n refl p (f .1) (f .2) (f .3) q) ∙ wrap-fits (e .count) (f .0)) i;
+        cnfg = digit-b (pattern (e .count)) (e .cnfg) (e .stat) (e .pins) (num (e .seen)) n refl p (f .1) (f .2) (f .3) q i;
+        stat = digit-c (pattern (e .count)) (e .cnfg) (e .stat) (e .pins) (num (e .seen)) n refl p (f .1) (f .2) (f .3) q i;
+        pins = digit-d (pattern (e .count)) (e .cnfg) (e .stat) (e .pins) (num (e .seen)) n refl p (f .1) (f .2) (f .3) q i;
+        seen = is (e .seen) (n / 2 ^ 56) (digit-f (pattern (e .count)) (e .cnfg) (e .stat) (e .pins) (num (e .seen)) n refl p (f .1) (f .2) (f .3) q) i;
       }
 
 encoder-image : (v : ℕ) → v / 2 ^ 56 < 2 → encoderNumber (encoderOf v) ≡ v
@@ -134,14 +135,14 @@ module _ (v : ℕ) (h : isEncoder v ≡ true) where
 
   encoder-fits : FitsEncoder (encoderOf v)
   unfolding encoderOf
-  encoder-fits = record { count = wrap-small (pos v); cnfg = encoder-passed .0; stat = encoder-passed .1 .0; pins = encoder-passed .1 .1 .0 }
+  encoder-fits = (wrap-small (pos v), encoder-passed .0, encoder-passed .1 .0, encoder-passed .1 .1 .0)
 
 pub encoder-number : Number isEncoder encoderNumber encoderOf FitsEncoder
 unfolding encoderNumber
 encoder-number = record {
-  small = λ e f. digits-small (pattern (e .count)) (e .cnfg) (e .stat) (e .pins) (num (e .seen)) _ refl (pattern-lt (e .count)) (f .cnfg) (f .stat) (f .pins) (one (e .seen));
+  small = λ e f. digits-small (pattern (e .count)) (e .cnfg) (e .stat) (e .pins) (num (e .seen)) _ refl (pattern-lt (e .count)) (f .1) (f .2) (f .3) (one (e .seen));
   back = encoder-back;
-  passes = λ e f. digits-pass (pattern (e .count)) (e .cnfg) (e .stat) (e .pins) (num (e .seen)) _ refl (pattern-lt (e .count)) (f .cnfg) (f .stat) (f .pins) (one (e .seen));
+  passes = λ e f. digits-pass (pattern (e .count)) (e .cnfg) (e .stat) (e .pins) (num (e .seen)) _ refl (pattern-lt (e .count)) (f .1) (f .2) (f .3) (one (e .seen));
   image = λ v s h. encoder-image v (encoder-passed v h .1 .1 .1);
   fits = λ v s h. encoder-fits v h;
 }
@@ -197,7 +198,7 @@ module _ (v : ℕ) (h : isI2c v ≡ true) where
 
   i2c-fits : FitsI2c (i2cOf v)
   unfolding i2cOf
-  i2c-fits = record { addr = omega arith; cntl = i2c-first .0; answer = i2c-passed .1 .1 .0; failure = omega (arith, i2c-passed .1 .1 .1) }
+  i2c-fits = (omega arith, i2c-first .0, i2c-passed .1 .1 .0, omega (arith, i2c-passed .1 .1 .1))
 
 i2c-image : (v : ℕ) → v / 2 ^ 16 % 2 ^ 8 < 3 → v / 2 ^ 24 % 2 ^ 8 < 2 → v / 2 ^ 40 < 3 → i2cNumber (i2cOf v) ≡ v
 unfolding i2cNumber i2cOf
@@ -213,8 +214,8 @@ module _ (c : I2c) (f : FitsI2c c) where
 
   i2c-last : number / 2 ^ 40 % 2 ^ 8 ≡ c .failure
   i2c-last =
-      let g : number / 2 ^ 40 ≡ c .failure = i2c-g (c .addr) (c .cntl) (stateOf (c .phase)) (num (c .acknowledged)) (c .answer) (c .failure) number refl (f .addr) (f .cntl) (state-small (c .phase)) (one (c .acknowledged)) (f .answer) (f .failure) in
-      rw g (mod-eq-of-lt (omega (arith, f .failure)))
+      let g : number / 2 ^ 40 ≡ c .failure = i2c-g (c .addr) (c .cntl) (stateOf (c .phase)) (num (c .acknowledged)) (c .answer) (c .failure) number refl (f .0) (f .1) (state-small (c .phase)) (one (c .acknowledged)) (f .2) (f .3) in
+      rw g (mod-eq-of-lt (omega (arith, f .3)))
 
   i2c-back : i2cOf (i2cNumber c) ≡ c
   unfolding i2cNumber i2cOf
@@ -222,20 +223,20 @@ module _ (c : I2c) (f : FitsI2c c) where
       let s = state-small (c .phase) in
       let o = one (c .acknowledged) in
       λ i. record {
-        addr = i2c-a (c .addr) (c .cntl) (stateOf (c .phase)) (num (c .acknowledged)) (c .answer) (c .failure) number refl (f .addr) (f .cntl) s o (f .answer) (f .failure) i;
-        cntl = i2c-b (c .addr) (c .cntl) (stateOf (c .phase)) (num (c .acknowledged)) (c .answer) (c .failure) number refl (f .addr) (f .cntl) s o (f .answer) (f .failure) i;
-        phase = (ap phaseOf (i2c-c (c .addr) (c .cntl) (stateOf (c .phase)) (num (c .acknowledged)) (c .answer) (c .failure) number refl (f .addr) (f .cntl) s o (f .answer) (f .failure)) ∙ phase-back (c .phase)) i;
-        acknowledged = is-one (c .acknowledged) (number / 2 ^ 24 % 2) (i2c-bit (c .addr) (c .cntl) (stateOf (c .phase)) (num (c .acknowledged)) (c .answer) (c .failure) number refl (f .addr) (f .cntl) s o (f .answer) (f .failure)) i;
-        answer = i2c-f (c .addr) (c .cntl) (stateOf (c .phase)) (num (c .acknowledged)) (c .answer) (c .failure) number refl (f .addr) (f .cntl) s o (f .answer) (f .failure) i;
+        addr = i2c-a (c .addr) (c .cntl) (stateOf (c .phase)) (num (c .acknowledged)) (c .answer) (c .failure) number refl (f .0) (f .1) s o (f .2) (f .3) i;
+        cntl = i2c-b (c .addr) (c .cntl) (stateOf (c .phase)) (num (c .acknowledged)) (c .answer) (c .failure) number refl (f .0) (f .1) s o (f .2) (f .3) i;
+        phase = (ap phaseOf (i2c-c (c .addr) (c .cntl) (stateOf (c .phase)) (num (c .acknowledged)) (c .answer) (c .failure) number refl (f .0) (f .1) s o (f .2) (f .3)) ∙ phase-back (c .phase)) i;
+        acknowledged = is-one (c .acknowledged) (number / 2 ^ 24 % 2) (i2c-bit (c .addr) (c .cntl) (stateOf (c .phase)) (num (c .acknowledged)) (c .answer) (c .failure) number refl (f .0) (f .1) s o (f .2) (f .3)) i;
+        answer = i2c-f (c .addr) (c .cntl) (stateOf (c .phase)) (num (c .acknowledged)) (c .answer) (c .failure) number refl (f .0) (f .1) s o (f .2) (f .3) i;
         failure = i2c-last i;
       }
 
 pub i2c-number : Number isI2c i2cNumber i2cOf FitsI2c
 unfolding i2cNumber
 i2c-number = record {
-  small = λ c f. i2c-small (c .addr) (c .cntl) (stateOf (c .phase)) (num (c .acknowledged)) (c .answer) (c .failure) _ refl (f .addr) (f .cntl) (state-small (c .phase)) (one (c .acknowledged)) (f .answer) (f .failure);
+  small = λ c f. i2c-small (c .addr) (c .cntl) (stateOf (c .phase)) (num (c .acknowledged)) (c .answer) (c .failure) _ refl (f .0) (f .1) (state-small (c .phase)) (one (c .acknowledged)) (f .2) (f .3);
   back = i2c-back;
-  passes = λ c f. i2c-pass (c .addr) (c .cntl) (stateOf (c .phase)) (num (c .acknowledged)) (c .answer) (c .failure) _ refl (f .addr) (f .cntl) (state-small (c .phase)) (one (c .acknowledged)) (f .answer) (f .failure);
+  passes = λ c f. i2c-pass (c .addr) (c .cntl) (stateOf (c .phase)) (num (c .acknowledged)) (c .answer) (c .failure) _ refl (f .0) (f .1) (state-small (c .phase)) (one (c .acknowledged)) (f .2) (f .3);
   image = λ v s h. i2c-image v (i2c-passed v h .0) (i2c-passed v h .1 .0) (i2c-passed v h .1 .1 .1);
   fits = λ v s h. i2c-fits v h;
 }

@@ -7,7 +7,7 @@ use native.Mathlib.Omega.{arith}
 use lib.Dec.{eqb, ltb, leb, leb→le}
 use lib.ListN.{replicate}
 use lib.IntN.{ℤ}
-use borrow.Author.Tests.{lt-ltb, le-ltb, ltb-true, ltb-false, leb-true, leb-false, eq-eqb, ne-eqb}
+use borrow.Author.Tests.{ltb-true, ltb-false, leb-true, leb-false, eq-eqb, ne-eqb}
 use Rattle.laws.proofs.Truth.{both-true}
 use Rattle.laws.proofs.Table.{at}
 use Rattle.divider.specs.Divider.{dividerOf}
@@ -20,8 +20,8 @@ use Rattle.i2c.specs.declared.Phase.{Phase}
 use Rattle.i2c.specs.declared.Phase.the-variants.{Idle, TxIdle, RxIdle}
 use Rattle.i2c.specs.declared.I2c.{I2c}
 use Rattle.i2c.specs.I2c.{stateOf}
-use Rattle.image_words.specs.Words.{encoderNumber, FitsEncoder, encoderOf, registersOf, waveOf, pwmOf, isRegisters, isShort}
-use Rattle.image_words.specs.How.{lowNumber, isQuick}
+use Rattle.image_words.specs.Words.{FitsEncoder}
+use Rattle.image_words.specs.How.{encoderNumber, lowNumber, encoderOf, registersOf, waveOf, pwmOf, isRegisters, isShort, isQuick}
 
 pub encoder-made : (v : ℕ) (z : ℤ) → z ≡ signed (v % 2 ^ 32)
     → _≡_ {A = Encoder} (record { count = z; cnfg = v / 2 ^ 32 % 2 ^ 8; stat = v / 2 ^ 40 % 2 ^ 8; pins = v / 2 ^ 48 % 2 ^ 8; seen = bit 56 v }) (encoderOf v)
@@ -105,6 +105,6 @@ divider-small cs h = leb→le (dividerOf cs) 64 (at divider-at (replicate 8 0) t
 pub low-number : (e : Encoder) → FitsEncoder e → lowNumber e ≡ encoderNumber e
 unfolding lowNumber encoderNumber
 low-number e f =
-    let a : e .cnfg % 2 ^ 8 ≡ e .cnfg = omega (arith, f .cnfg) in
-    let b : e .stat % 2 ^ 8 ≡ e .stat = omega (arith, f .stat) in
+    let a : e .cnfg % 2 ^ 8 ≡ e .cnfg = omega (arith, f .1) in
+    let b : e .stat % 2 ^ 8 ≡ e .stat = omega (arith, f .2) in
     rw (a, b)

@@ -10,8 +10,7 @@ ghost use mathlib.Core.Path.{_≡_};
 ghost use Prim.Native.Nat.{_<_};
 ghost use Rattle.encoder.specs.Count.{pattern};
 ghost use Rattle.i2c.specs.I2c.{stateOf};
-ghost use Rattle.image_words.specs.Words.{phaseOf, i2cNumber, i2cOf, isI2c, encoderOf, isEncoder, registersNumber, registersOf, isRegisters, waveNumber, waveOf, pwmOf};
-ghost use Rattle.image_words.specs.How.{lowNumber, isQuick};
+ghost use Rattle.image_words.specs.How.{phaseOf, i2cNumber, i2cOf, isI2c, lowNumber, encoderOf, isEncoder, registersNumber, registersOf, isRegisters, isQuick, waveNumber, waveOf, pwmOf};
 
 // ---- an encoder
 

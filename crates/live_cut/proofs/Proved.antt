@@ -2,20 +2,21 @@
 -- Assumes nothing.
 use mathlib.Core.Path.{_≡_, refl, sym, ap, ap₂, _∙_, subst}
 use mathlib.Core.List.{List, [], _∷_, _++_}
-use mathlib.Core.Bool.{cond}
-use Prim.Native.Nat.{ℕ, _*_, _/_, _%_, _^_, _≤_}
+use mathlib.Core.Bool.{Bool, true, false, cond}
+use Prim.Native.Nat.{ℕ, _+_, _*_, _/_, _%_, _^_}
 use native.Mathlib.Nat.{zero-add, mod-eq-of-lt}
 use native.Mathlib.Omega.{arith}
 use lib.Dec.{eqb}
-use lib.ListN.{length, take, drop, take-append-drop, length-drop}
+use lib.ListN.{length, take, drop, take-append-drop, length-drop, drop-of-length-le}
 use lib.Seq.{length-take-le}
-use borrow.Author.Tests.{ne-eqb}
-use Rattle.fold.specs.Run.{Run}
-use Rattle.fold.specs.Output.{stopOf, over, outputOf}
+use borrow.Author.Tests.{eq-eqb, ne-eqb}
+use Rattle.fold.specs.Output.{stopOf, numberOf}
 use Rattle.fold.specs.Device.{records}
 use Rattle.fold.specs.Stream.{wholes, leftOver}
 use Rattle.fold.proofs.Streams.{records-front}
+use Rattle.fold.proofs.Written.{bytes-cut}
 use Rattle.edition.specs.Edition.{editionOf}
+use Rattle.wire.specs.Bytes.{leBytes}
 use Rattle.wire.specs.Trailer.{trailerOf, recordsAt, editionAt}
 use Rattle.wire.specs.declared.Trailer.{Trailer}
 use Rattle.wire.specs.declared.Trailer.the-variants.{Found}
@@ -32,70 +33,78 @@ use Rattle.travel.proofs.Proved.{demand-of-runs}
 use Rattle.live.specs.Live.{Taken, freshOf, takenOf, chunkOf, endOf}
 use Rattle.live.proofs.Ways.{Way, again, taken, not-taken, way}
 use Rattle.live.proofs.Ways as ways
-use Rattle.live_cut.specs.Cut.{Lent, Streamed, bytesIn, streamed, Roomy}
-use Rattle.live_cut.specs.Facts.{Same, AnyCut, EndOfAll, CutOfLogs, SixLeaves, RefusedAgain, DemandOfStreams}
-use Rattle.live_cut.proofs.Chunks.{stays, taken-not-six, atOnce, all-at-once}
-
-all : (e : ℕ) (cs : List Lent) → Roomy (freshOf e) cs → streamed (freshOf e) cs ≡ atOnce (takenOf (freshOf e) (bytesIn cs))
-all e cs h = all-at-once (freshOf e) cs (record { none = refl; few = omega arith; small = omega arith }) h
+use Rattle.live_cut.specs.Cut.{bytesIn}
+use Rattle.live_cut.specs.Facts.{AnyCut, EndOfAll, CutOfLogs, Joined, SixLeaves, RefusedAgain, DemandOfStreams}
+use Rattle.live_cut.proofs.Chunks.{stays, taken-not-six, all-at-once}
 
 pub any-cut : AnyCut
-unfolding takenOf
-any-cut e cs h = record {
-  readings = ap (λ (u : Streamed). u .readings) (all e cs h);
-  output = ap (λ (u : Streamed). u .output) (all e cs h);
-  state = ap (λ (u : Streamed). u .live .state) (all e cs h);
-  applied = ap (λ (u : Streamed). u .live .applied) (all e cs h) ∙ ap (λ (n : ℕ). n % 2 ^ 64) (zero-add (played (editionOf e) (wholes 16 (bytesIn cs)) .applied));
-  refused = ap (λ (u : Streamed). u .live .refused) (all e cs h);
-}
+any-cut e cs h = all-at-once (freshOf e) cs (record { none = refl; few = omega arith; small = omega arith }) h
 
 left-long : (b : List ℕ) → length (leftOver 16 b) ≡ length b % 16
 left-long b = omega (arith, length-drop (16 * (length b / 16)) b)
 
-pub end-of-all : EndOfAll
+end-of-one : (e : ℕ) (b : List ℕ) → takenOf (freshOf e) b .refused ≡ 0 → endOf (takenOf (freshOf e) b .live) ≡ cond (eqb (length b % 16) 0) 0 5
 unfolding takenOf
+end-of-one e b g = rw (eq-eqb (numberOf (played (editionOf e) (wholes 16 b) .course)) 0 g) (ap (λ (n : ℕ). cond (eqb n 0) 0 5) (left-long b))
+
+pub end-of-all : EndOfAll
 end-of-all e cs h g =
-    ap (λ (u : Streamed). endOf (u .live)) (all e cs h)
-    ∙ rw g (ap (λ (n : ℕ). cond (eqb n 0) 0 5) (left-long (bytesIn cs)))
+    let one = any-cut e cs h in
+    ap (λ (t : Taken). endOf (t .live)) one ∙ end-of-one e (bytesIn cs) (sym (ap (λ (t : Taken). t .refused) one) ∙ g)
 
 -- ---- a log's records
 
-log-records : (log : List ℕ) (a n e : ℕ) → trailerOf log ≡ Found a n e → wholes 16 (take (16 * n) (drop a log)) ≡ records 16 n (drop a log)
-log-records log a n e found =
-    let l : List ℕ = drop a log in
-    let enough : 16 * n ≤ length l = omega (arith, length-drop a log, ends log a n e found) in
-    let long : length (take (16 * n) l) ≡ 16 * n = length-take-le (16 * n) l enough in
-    let count : length (take (16 * n) l) / 16 ≡ n = omega (arith, long) in
-    ap (λ (k : ℕ). records 16 k (take (16 * n) l)) count
-    ∙ sym (records-front 16 n (take (16 * n) l) (drop (16 * n) l) (omega (arith, long)))
-    ∙ ap (records 16 n) (take-append-drop (16 * n) l)
+module _ (log : List ℕ) (a n e : ℕ) (found : trailerOf log ≡ Found a n e) where
+  abbrev all : List ℕ
+  all = take (16 * n) (drop a log)
+
+  long : length all ≡ 16 * n
+  long = length-take-le (16 * n) (drop a log) (omega (arith, length-drop a log, ends log a n e found))
+
+  log-records : wholes 16 all ≡ records 16 n (drop a log)
+  log-records =
+      let count : length all / 16 ≡ n = omega (arith, long) in
+      ap (λ (k : ℕ). records 16 k all) count
+      ∙ sym (records-front 16 n all (drop (16 * n) (drop a log)) (omega (arith, long)))
+      ∙ ap (records 16 n) (take-append-drop (16 * n) (drop a log))
+
+  none-left : (b : Bool) → cond b (leftOver 16 all) [] ≡ []
+  none-left true = drop-of-length-le all {i = 16 * (length all / 16)} (omega (arith, long))
+  none-left false = refl
 
 pub cut-of-logs : CutOfLogs
-unfolding stopOf outputOf
-cut-of-logs log out a n e cs found room is h =
-    let same : played (editionOf e) (wholes 16 (bytesIn cs)) ≡ replayOf log (length out) =
-    ap₂ played (ap editionAt (sym found)) (ap (wholes 16) is ∙ log-records log a n e found ∙ ap (λ (t : Trailer). recordsAt t log) (sym found))
-    ∙ sym (replayed log a n e (length out) found room) in
-    let s : Same (replayOf log (length out)) (streamed (freshOf e) cs) = subst (λ (x : Run State ℕ). Same x (streamed (freshOf e) cs)) same (any-cut e cs h) in
-    (s, (s .applied ∙ mod-eq-of-lt (omega (arith, small log (length out) (stopOf (replayOf log (length out))) refl)), ap (λ (l : List ℕ). over l out) (sym (s .output))))
+unfolding takenOf stopOf
+cut-of-logs log room a n e cs found enough is h =
+    let x = replayOf log room in
+    let same : played (editionOf e) (wholes 16 (all log a n e found)) ≡ x =
+    ap₂ played (ap editionAt (sym found)) (log-records log a n e found ∙ ap (λ (t : Trailer). recordsAt t log) (sym found))
+    ∙ sym (replayed log a n e room found enough) in
+    let few : x .applied % 2 ^ 64 ≡ x .applied = mod-eq-of-lt (omega (arith, small log room (stopOf x) refl)) in
+    any-cut e cs h
+    ∙ ap (takenOf (freshOf e)) is
+    ∙ rw (same, none-left log a n e found (eqb (numberOf (x .course)) 0), zero-add (x .applied), few)
+
+pub joined : Joined
+joined = bytes-cut (leBytes 8)
 
 -- ---- refusals
 
 pub six-leaves : SixLeaves
 six-leaves s b room h = by (way s b room)
   where
-    by : Way s b room → (chunkOf s b room .live ≡ s) × (chunkOf s b room .readings ≡ [])
-    by (again some e) = (ap (λ (t : Taken). t .live) e, ap (λ (t : Taken). t .readings) e)
+    by : Way s b room → chunkOf s b room ≡ record { live = s; refused = 6; readings = [] }
+    by (again some e) = e ∙ ap {B = Taken} (λ (k : ℕ). record { live = s; refused = k; readings = [] }) (sym (ap (λ (t : Taken). t .refused) e) ∙ h)
     by (taken none e) = absurd (taken-not-six s b (sym (ap (λ (t : Taken). t .refused) e) ∙ h))
-    by (not-taken none e) = (ap (λ (t : Taken). t .live) e, ap (λ (t : Taken). t .readings) e)
+    by (not-taken none e) = e
 
 pub refused-again : RefusedAgain
-refused-again s cs b room h = (stays s cs h, (ways.refused-again s b room h, rw (ne-eqb (s .refused) 0 h)))
+refused-again s cs b room h = (stays s cs h, ways.refused-again s b room h, rw (ne-eqb (s .refused) 0 h))
 
 -- ---- demand 3
 
 pub demand-of-streams : DemandOfStreams
+unfolding takenOf
 demand-of-streams e k i cs before r rs h cut st =
     subst (λ (x : State). Demand (pinsIn k i (r ∷ rs)) (encoderAfter (editionOf e) k i (before ++ r ∷ []) .count) (encoderAt i (bankAt k x) .count))
-    (ap (λ (l : List (List ℕ)). played (editionOf e) l .state) (sym cut) ∙ sym (any-cut e cs h .state))
+    (ap (λ (l : List (List ℕ)). played (editionOf e) l .state) (sym cut) ∙ sym (ap (λ (t : Taken). t .live .state) (any-cut e cs h)))
     (demand-of-runs (editionOf e) k i before r rs st)

@@ -1,6 +1,7 @@
 -- The parts of an answer: each number has room, and the word says the parts. Assumes nothing.
 use mathlib.Core.Path.{_≡_, ap, _∙_}
 use mathlib.Core.List.{List}
+use mathlib.Core.Logic.{inl, inr}
 use Prim.Native.Nat.{ℕ, _/_, _%_, _^_, _<_}
 use native.Mathlib.Omega.{arith}
 use lib.ListN.{length}
@@ -21,6 +22,8 @@ use Rattle.shrink.proofs.Whole.{smaller-small}
 use Rattle.sign.specs.declared.Signed.{Signed}
 use Rattle.sign.specs.Sign.{Told as Signs, signOf, signedOf}
 use Rattle.sign.proofs.Telling.{count-small}
+use Rattle.live.specs.Live.{chunkOf, endOf}
+use Rattle.stream.specs.Stream.{On}
 use Rattle.stream.specs.declared.Told.{Told}
 use Rattle.writer.specs.declared.Written.{Written}
 use Rattle.rivandoze.specs.Word.{refusalIn, Word, WordSettled}
@@ -58,8 +61,16 @@ module _ (w : ℕ) where
   pub sign-word : (t : Signs) (s : Signed) → s ≡ signedOf t → Word (s .refused) (s .count) w → Word (t .refused) (length (t .entries)) w
   sign-word t s e x = rw e at x
 
-  pub chunk-word : (d e : Told) → d ≡ e → Word (d .refused) (d .readings % 2 ^ 56) w → Word (e .refused) (e .readings % 2 ^ 56) w
-  chunk-word d e q x = rw q at x
+  pub chunk-word : (state bytes : List ℕ) (room : ℕ) (t : Told)
+      → On state (λ l. t ≡ record { refused = chunkOf l bytes room .refused; readings = length (chunkOf l bytes room .readings) }) (t ≡ record { refused = 19; readings = 0 })
+      → Word (t .refused) (t .readings % 2 ^ 56) w
+      → On state (λ l. Word (chunkOf l bytes room .refused) (length (chunkOf l bytes room .readings) % 2 ^ 56) w) (Word 19 0 w)
+  chunk-word state bytes room t (inl p) x = inl (p .0, p .1, rw (p .2) at x)
+  chunk-word state bytes room t (inr p) x = inr (p .0, rw (p .1) at x)
+
+  pub end-word : (state : List ℕ) (n : ℕ) → On state (λ l. n ≡ endOf l) (n ≡ 19) → Word n 0 w → On state (λ l. Word (endOf l) 0 w) (Word 19 0 w)
+  end-word state n (inl p) x = inl (p .0, p .1, rw (p .2) at x)
+  end-word state n (inr p) x = inr (p .0, rw (p .1) at x)
 
   pub number-word : (k n : ℕ) → k ≡ n → Word k 0 w → Word n 0 w
   number-word k n q x = rw q at x

@@ -3,7 +3,8 @@
 ghost use Prim.Native.Nat.{_<_, _/_, _%_, _^_};
 ghost use mathlib.Core.Path.{_≡_};
 ghost use lib.ListN.{length};
-ghost use Rattle.fold.specs.Output.{numberOf};
+ghost use Rattle.fold.specs.Output.{numberOf, bytesOf, over};
+ghost use Rattle.wire.specs.Bytes.{leBytes};
 ghost use Rattle.walk.specs.Turn.{written};
 ghost use Rattle.replay.specs.Replay.{replayOf};
 ghost use Rattle.made.specs.Made.{madeOf, outputOf as made-output};
@@ -12,7 +13,9 @@ ghost use Rattle.dump_read.specs.Reading.{Answer};
 ghost use Rattle.shrink.specs.Shrink.{smallerOf};
 ghost use Rattle.sign.specs.Sign.{signOf, signOutput};
 ghost use Rattle.writer.specs.Writer.{writtenOf, outputOf as write-output};
-ghost use Rattle.stream.specs.Stream.{startOf, startedIn, toldOf, keptIn, outputOf as stream-output, endIn, appliedIn};
+ghost use Rattle.live.specs.Live.{chunkOf, endOf};
+ghost use Rattle.image.specs.Image.{imageOf};
+ghost use Rattle.stream.specs.Stream.{startOf, startedIn, On};
 ghost use Rattle.rivandoze.specs.Word.{refusalIn, Word};
 
 fn word(refused: u8, number: usize) -> u64
@@ -95,9 +98,9 @@ pub extern "C" fn rvz_stream_start(edition: u64, state: &mut [u8]) -> u64
 // How many readings this chunk wrote, of which 56 bits have room for those of less than 2^60 bytes.
 #[no_mangle]
 pub extern "C" fn rvz_stream_chunk(state: &mut [u8], chunk: &[u8], out: &mut [u8]) -> u64
-    ensures { λ r. ⌜ Word (toldOf (now (state .entry)) (now (chunk .entry)) (length (now (out .entry))) .refused) (toldOf (now (state .entry)) (now (chunk .entry)) (length (now (out .entry))) .readings % 2 ^ 56) r ⌝ }
-    ensures { λ _. ⌜ now (state .exit) ≡ keptIn (now (state .entry)) (now (chunk .entry)) (length (now (out .entry))) ⌝ }
-    ensures { λ _. ⌜ now (out .exit) ≡ stream-output (now (state .entry)) (now (chunk .entry)) (now (out .entry)) ⌝ }
+    ensures { λ r. ⌜ On (now (state .entry)) (λ l. Word (chunkOf l (now (chunk .entry)) (length (now (out .entry))) .refused) (length (chunkOf l (now (chunk .entry)) (length (now (out .entry))) .readings) % 2 ^ 56) r) (Word 19 0 r) ⌝ }
+    ensures { λ _. ⌜ On (now (state .entry)) (λ l. now (state .exit) ≡ over (imageOf (chunkOf l (now (chunk .entry)) (length (now (out .entry))) .live)) (now (state .entry))) (now (state .exit) ≡ now (state .entry)) ⌝ }
+    ensures { λ _. ⌜ On (now (state .entry)) (λ l. now (out .exit) ≡ over (bytesOf (leBytes 8) (chunkOf l (now (chunk .entry)) (length (now (out .entry))) .readings)) (now (out .entry))) (now (out .exit) ≡ now (out .entry)) ⌝ }
 {
     let t = stream::chunk(state, chunk, out);
     word(t.refused, t.readings % 72_057_594_037_927_936)
@@ -105,7 +108,7 @@ pub extern "C" fn rvz_stream_chunk(state: &mut [u8], chunk: &[u8], out: &mut [u8
 
 #[no_mangle]
 pub extern "C" fn rvz_stream_end(state: &[u8]) -> u64
-    ensures { λ r. ⌜ Word (endIn (now (state .entry))) 0 r ⌝ }
+    ensures { λ r. ⌜ On (now (state .entry)) (λ l. Word (endOf l) 0 r) (Word 19 0 r) ⌝ }
 {
     let refused = stream::end(state);
     word(refused, 0)
@@ -114,7 +117,7 @@ pub extern "C" fn rvz_stream_end(state: &[u8]) -> u64
 // The applied number itself, with no refusal in it.
 #[no_mangle]
 pub extern "C" fn rvz_stream_applied(state: &[u8]) -> u64
-    ensures { λ r. ⌜ r ≡ appliedIn (now (state .entry)) ⌝ }
+    ensures { λ r. ⌜ On (now (state .entry)) (λ l. r ≡ l .applied) (r ≡ 0) ⌝ }
 {
     stream::applied(state)
 }

@@ -1,46 +1,38 @@
 -- What a chunk comes to is well-formed where the stream was, so that its image is a state. Assumes nothing.
-use mathlib.Core.Path.{_≡_, refl, sym, ap, _∙_, subst}
-use mathlib.Core.Bool.{Bool, true, false, cond, _&&_, _||_}
+use mathlib.Core.Path.{_≡_, refl}
+use mathlib.Core.Bool.{Bool, true, false, cond}
 use mathlib.Core.List.{List, [], _++_}
-use Prim.Native.Nat.{ℕ, _+_, _*_, _-_, _/_, _%_, _^_, _<_, _≤_}
+use Prim.Native.Nat.{ℕ, _+_, _*_, _-_, _/_, _<_}
 use native.Mathlib.Omega.{arith}
-use lib.Dec.{eqb, ltb, leb}
-use lib.ListN.{length, drop, length-drop}
+use lib.Dec.{eqb, leb}
+use lib.ListN.{length, length-drop}
 use lib.Seq.{getD-drop}
-use borrow.Author.Tests.{lt-ltb}
-use Rattle.laws.proofs.Truth.{both-true}
-use Rattle.fold.specs.Run.{Run, Course, going, stopped, runOf}
+use Rattle.fold.specs.Run.{Run, runOf}
 use Rattle.fold.specs.Output.{numberOf}
 use Rattle.fold.specs.Stream.{leftOver}
 use Rattle.edition.specs.Edition.{known, editionOf}
-use Rattle.wire.specs.Bytes.{byte, readsIn}
+use Rattle.wire.specs.Bytes.{readsIn}
 use Rattle.banks.specs.declared.State.{State}
 use Rattle.walk.specs.Turn.{turnOf}
-use Rattle.live.specs.Live.{Live, Taken, freshOf, finished, carriedBy, takenBy, takenOf, chunkOf}
-use Rattle.codec.specs.Codec.{Bytes}
+use Rattle.live.specs.Live.{Live, Taken, freshOf, takenOf, chunkOf}
+use Rattle.live.specs.How.{finished}
+use Rattle.codec.specs.How.{Bytes}
 use Rattle.codec.proofs.Has.{bytes-both}
-use Rattle.image.specs.Image.{isRefusal, isHead, Fits}
-use Rattle.image_kept.proofs.Proved.{kept}
+use Rattle.image.specs.Image.{Fits}
+use Rattle.image_kept.proofs.Keeping.{state-first, run-kept, run-refusal}
 
--- ---- the head
+-- ---- what is carried on
 
 left-few : (xs : List ℕ) → length (leftOver 16 xs) < 16
 left-few xs = omega (arith, length-drop (16 * (length xs / 16)) xs)
 
-or-true : (a : Bool) → (a || true) ≡ true
-or-true true = refl
-or-true false = refl
+few-carried : (b : Bool) (xs : List ℕ) → length (cond b (leftOver 16 xs) []) < cond b 16 1
+few-carried true xs = left-few xs
+few-carried false xs = omega arith
 
-head-good : (c : Course) (xs : List ℕ) (e : ℕ) → known e ≡ true → isRefusal (numberOf c) ≡ true → isHead (numberOf c) (length (carriedBy c xs)) e ≡ true
-head-good going xs e k r = rw (k, lt-ltb (length (leftOver 16 xs)) 16 (left-few xs))
-head-good (stopped n) xs e k r = rw (k, r, or-true (eqb n 0))
-
-bytes-left : (c : Course) (xs : List ℕ) → Bytes xs → Bytes (carriedBy c xs)
-bytes-left going xs h = λ i. rw (getD-drop (16 * (length xs / 16)) xs i 0) (h (16 * (length xs / 16) + i))
-bytes-left (stopped n) xs h = λ i. omega arith
-
-known-in : (l : Live) → Fits l → known (l .edition) ≡ true
-known-in l f = both-true (known (l .edition)) _ (f .head) .0
+bytes-left : (b : Bool) (xs : List ℕ) → Bytes xs → Bytes (cond b (leftOver 16 xs) [])
+bytes-left true xs h = λ i. rw (getD-drop (16 * (length xs / 16)) xs i 0) (h (16 * (length xs / 16) + i))
+bytes-left false xs h = λ i. omega arith
 
 -- ---- the stream
 
@@ -51,10 +43,12 @@ module _ (l : Live) (f : Fits l) (bytes : List ℕ) (given : Bytes bytes) where
   fits-taken : Fits (takenOf l bytes .live)
   unfolding takenOf
   fits-taken = record {
-    head = head-good (ran .course) (l .carried ++ bytes) (l .edition) (known-in l f) (kept .number (editionOf (l .edition)) (l .state) (finished l bytes));
+    edition = f .edition;
+    refused = run-refusal (editionOf (l .edition)) (l .state) (finished l bytes);
+    held = few-carried (eqb (numberOf (ran .course)) 0) (l .carried ++ bytes);
+    carried = bytes-left (eqb (numberOf (ran .course)) 0) (l .carried ++ bytes) (bytes-both (l .carried) bytes (f .carried) given);
     applied = omega arith;
-    carried = bytes-left (ran .course) (l .carried ++ bytes) (bytes-both (l .carried) bytes (f .carried) given);
-    state = kept .run (editionOf (l .edition)) (l .state) (finished l bytes) (f .state);
+    banks = run-kept (editionOf (l .edition)) (l .state) (finished l bytes) (f .banks);
   }
 
   pub fits-chunk : (room : ℕ) → Fits (chunkOf l bytes room .live)
@@ -67,4 +61,4 @@ module _ (l : Live) (f : Fits l) (bytes : List ℕ) (given : Bytes bytes) where
       by false b = f
 
 pub fits-fresh : (e : ℕ) → known e ≡ true → Fits (freshOf e)
-fits-fresh e k = record { head = rw k; applied = omega arith; carried = λ i. omega arith; state = kept .first }
+fits-fresh e k = record { edition = k; refused = refl; held = omega arith; carried = λ i. omega arith; applied = omega arith; banks = state-first }

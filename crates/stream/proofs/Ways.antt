@@ -1,28 +1,27 @@
 -- The ways of each call. Assumes nothing.
-use mathlib.Core.Path.{_≡_, refl, sym, ap, _∙_, subst}
-use mathlib.Core.Bool.{Bool, true, false, cond, not}
-use mathlib.Core.List.{List, [], _++_}
-use Prim.Native.Nat.{ℕ, _+_, _-_, _%_, _^_, _<_, _≤_}
+use mathlib.Core.Path.{_≡_, sym, ap, _∙_, subst}
+use mathlib.Core.Bool.{Bool, true, false}
+use mathlib.Core.List.{List, _++_}
+use mathlib.Core.Logic.{inl}
+use Prim.Native.Nat.{ℕ, _+_, _-_, _<_, _≤_}
 use native.Mathlib.Omega.{arith}
-use lib.Dec.{eqb, leb}
-use lib.ListN.{length, getD, take, drop, replicate, length-drop, length-replicate}
-use borrow.Author.Tests.{le-leb, lt-leb, leb-true}
+use lib.ListN.{length, getD, drop, length-drop, length-replicate}
+use borrow.Author.Tests.{le-leb, lt-leb}
 use mir.Syntax.{w8}
 use mir.Val as val
 use Rattle.fold.specs.Output.{over}
 use Rattle.edition.specs.Edition.{known}
 use Rattle.wire.specs.Bytes.{leOf}
-use Rattle.live.specs.Live.{Live, Taken, freshOf, chunkOf, writtenBy, endOf}
-use Rattle.live.specs.How.{liveOf, Good, Comes}
+use Rattle.live.specs.Live.{Live, freshOf, chunkOf, endOf}
+use Rattle.live.specs.How.{liveOf, Good, Comes, writtenBy}
 use Rattle.live.specs.declared.Stream.{Stream}
 use Rattle.live.specs.declared.Chunked.{Chunked}
-use Rattle.codec.specs.Codec.{Bytes}
-use Rattle.image.specs.Image.{size, imageOf, loadOf, isState, Fits}
-use Rattle.image.specs.How.{Loads, Saves}
-use Rattle.image.specs.Facts.{Loaded}
+use Rattle.codec.specs.How.{Bytes}
+use Rattle.image.specs.Image.{size, imageOf, Fits, Stands}
+use Rattle.image.specs.How.{loadOf, isState, Loads, Saves}
 use Rattle.image.proofs.Passing.{passed}
-use Rattle.image.proofs.Proved.{saves-all, loads-images}
-use Rattle.stream.specs.Stream.{startOf, startedIn, takenIn, toldOf, keptIn, outputOf, endIn, appliedIn}
+use Rattle.image.proofs.Loaded.{image-long, stands, only-states}
+use Rattle.stream.specs.Stream.{startOf, startedIn, On}
 use Rattle.stream.specs.declared.Told.{Told}
 use Rattle.stream.proofs.Keeping.{fits-chunk, fits-fresh}
 
@@ -36,7 +35,7 @@ bytes-held s h i = let f = h i in omega arith
 -- an image over what was there
 pub image-over : (l : Live) → Fits l → (state : List ℕ) → imageOf l ++ drop size state ≡ over (imageOf l) state
 unfolding over
-image-over l f state = ap (λ (n : ℕ). imageOf l ++ drop n state) (sym (saves-all l f .long))
+image-over l f state = ap (λ (n : ℕ). imageOf l ++ drop n state) (sym (image-long l f))
 
 -- ---- start
 
@@ -71,24 +70,12 @@ module _ (edition : ℕ) (state : List ℕ) where
 -- ---- a state
 
 module _ (state : List ℕ) (t : Bool) (is : t ≡ isState state) where
-  module _ (no : t ≡ false) where
-    pub none-told : (bytes : List ℕ) (room : ℕ) → record { refused = 19; readings = 0 } ≡ toldOf state bytes room
-    unfolding toldOf
-    none-told bytes room = rw (← is, no)
-
-    pub none-kept : (bytes : List ℕ) (room : ℕ) → state ≡ keptIn state bytes room
-    unfolding keptIn
-    none-kept bytes room = rw (← is, no)
-
-    pub none-output : (bytes out : List ℕ) → out ≡ outputOf state bytes out
-    unfolding outputOf
-    none-output bytes out = rw (← is, no)
-
-    pub none-end : 19 ≡ endIn state
-    none-end = rw (← is, no)
-
-    pub none-applied : 0 ≡ appliedIn state
-    none-applied = rw (← is, no)
+  -- no stream stands in it
+  pub nothing : t ≡ false → (l : Live) → Stands state l → ⊥
+  nothing none l h = let z : _≡_ {A = Bool} true false = sym (only-states state l h) ∙ sym is ∙ none in different z
+    where
+      different : _≡_ {A = Bool} true false → ⊥
+      different e = let w : _≡_ {A = ℕ} 0 1 = cc in omega arith
 
   module _ (yes : t ≡ true) where
     pub is-state : isState state ≡ true
@@ -100,44 +87,42 @@ module _ (state : List ℕ) (t : Bool) (is : t ≡ isState state) where
     pub has-size : size ≤ length state
     has-size = omega (arith, passed state is-state .long)
 
-    pub applied-told : (n : ℕ) → n ≡ leOf 8 state 8 → n ≡ appliedIn state
-    unfolding loadOf
-    applied-told n e = rw (← is, yes) e
+    module _ (held : Held state) where
+      pub applied-told : (n : ℕ) → n ≡ leOf 8 state 8 → On state (λ l. n ≡ l .applied) (n ≡ 0)
+      unfolding loadOf
+      applied-told n e = inl (loadOf state, stands state (bytes-held state held) is-state, e)
 
-    module _ (held : Held state) (r : Stream) (loads : Loads state r) where
-      loaded : Loaded state
-      loaded = loads-images state (bytes-held state held) is-state
+      module _ (r : Stream) (loads : Loads state r) where
+        there : Stands state (liveOf r)
+        there = subst (Stands state) (sym (loads .live)) (stands state (bytes-held state held) is-state)
 
-      fits-in : Fits (liveOf r)
-      fits-in = subst Fits (sym (loads .live)) (loaded .fits)
+        pub good : Good r
+        good = record {
+          whole = loads .whole;
+          long = omega (arith, ap length (loads .zeros), length-drop (r .held) (r .carried), length-replicate {A = ℕ} (16 - r .held) 0, loads .few);
+          few = loads .few;
+          small = there .0 .applied;
+          zeros = loads .zeros;
+        }
 
-      pub good : Good r
-      good = record {
-        whole = loads .whole;
-        long = omega (arith, ap length (loads .zeros), length-drop (r .held) (r .carried), length-replicate {A = ℕ} (16 - r .held) 0, loads .few);
-        few = loads .few;
-        small = fits-in .applied;
-        zeros = loads .zeros;
-      }
+        pub ends : (n : ℕ) → n ≡ endOf (liveOf r) → On state (λ l. n ≡ endOf l) (n ≡ 19)
+        ends n e = inl (liveOf r, there, e)
 
-      pub ends : (n : ℕ) → n ≡ endOf (liveOf r) → n ≡ endIn state
-      ends n e = rw (← is, yes) (e ∙ ap endOf (loads .live))
+        module _ (bytes : List ℕ) (given : Held bytes) (room : ℕ) (c : Chunked) (comes : Comes (chunkOf (liveOf r) bytes room) c) where
+          fits-on : Fits (liveOf (c .stream))
+          fits-on = subst Fits (sym (comes .live)) (fits-chunk (liveOf r) (there .0) bytes (bytes-held bytes given) room)
 
-      module _ (bytes : List ℕ) (given : Held bytes) (room : ℕ) (c : Chunked) (comes : Comes (chunkOf (liveOf r) bytes room) c) where
-        fits-on : Fits (liveOf (c .stream))
-        fits-on = subst Fits (sym (comes .live)) (fits-chunk (liveOf r) fits-in bytes (bytes-held bytes given) room)
+          pub saves : Good (c .stream) → Saves (c .stream)
+          saves g = record { fits = fits-on; few = g .few; zeros = g .zeros }
 
-        pub saves : Good (c .stream) → Saves (c .stream)
-        saves g = record { fits = fits-on; few = g .few; zeros = g .zeros }
+          abbrev told : Told
+          told = record { refused = c .refused; readings = c .readings }
 
-        pub told : record { refused = c .refused; readings = c .readings } ≡ toldOf state bytes room
-        unfolding toldOf
-        told = rw (← is, yes, ← loads .live) cc
+          pub tells : On state (λ l. told ≡ record { refused = chunkOf l bytes room .refused; readings = length (chunkOf l bytes room .readings) }) (told ≡ record { refused = 19; readings = 0 })
+          tells = inl (liveOf r, there, cc)
 
-        pub keeps : (after : List ℕ) → after ≡ imageOf (liveOf (c .stream)) ++ drop size state → after ≡ keptIn state bytes room
-        unfolding keptIn
-        keeps after e = rw (← is, yes, ← loads .live, ← comes .live) (e ∙ image-over (liveOf (c .stream)) fits-on state)
+          pub keeps : (after : List ℕ) → after ≡ imageOf (liveOf (c .stream)) ++ drop size state → On state (λ l. after ≡ over (imageOf (chunkOf l bytes room .live)) state) (after ≡ state)
+          keeps after e = inl (liveOf r, there, e ∙ image-over (liveOf (c .stream)) fits-on state ∙ ap (λ (l : Live). over (imageOf l) state) (comes .live))
 
-      pub output : (bytes out out′ : List ℕ) → out′ ≡ writtenBy (chunkOf (liveOf r) bytes (length out)) out → out′ ≡ outputOf state bytes out
-      unfolding outputOf
-      output bytes out out′ e = rw (← is, yes, ← loads .live) e
+        pub output : (bytes out out′ : List ℕ) → out′ ≡ writtenBy (chunkOf (liveOf r) bytes (length out)) out → On state (λ l. out′ ≡ writtenBy (chunkOf l bytes (length out)) out) (out′ ≡ out)
+        output bytes out out′ e = inl (liveOf r, there, e)

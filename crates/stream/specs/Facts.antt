@@ -1,26 +1,25 @@
 -- What is shown of a stream in lent bytes.
 -- Assumes nothing.
-use Prim.Native.Nat.{ℕ, _≤_}
+use Prim.Native.Nat.{ℕ, _<_}
 use mathlib.Core.Path.{_≡_}
 use mathlib.Core.List.{List}
-use mathlib.Core.Bool.{true}
-use lib.ListN.{length, drop}
-use Rattle.codec.specs.Codec.{Bytes}
-use Rattle.edition.specs.Edition.{known}
-use Rattle.live.specs.Live.{freshOf}
-use Rattle.image.specs.Image.{size, loadOf, isState}
-use Rattle.stream.specs.Stream.{startedIn, takenIn, keptIn}
+use lib.ListN.{length}
+use Rattle.fold.specs.Output.{over}
+use Rattle.wire.specs.Bytes.{byte}
+use Rattle.live.specs.Live.{Live, freshOf, chunkOf}
+use Rattle.image.specs.Image.{imageOf, Stands}
+use Rattle.stream.specs.Stream.{startOf, startedIn, On}
 
--- what is started is a state, of the fresh stream
+-- in what is started stands the fresh stream
 abbrev pub Starts : Type 0
-Starts = (edition : ℕ) (state : List ℕ) → known edition ≡ true → size ≤ length state
-    → (isState (startedIn edition state) ≡ true) × (loadOf (startedIn edition state) ≡ freshOf edition)
+Starts = (edition : ℕ) (state : List ℕ) → startOf edition (length state) ≡ 0 → Stands (startedIn edition state) (freshOf edition)
 
--- a state stays one, of the stream that the chunk comes to; the bytes behind it are as they were
-pub record Kept (state bytes : List ℕ) (room : ℕ) : Type 0 where
-  pub still : isState (keptIn state bytes room) ≡ true
-  pub loads : loadOf (keptIn state bytes room) ≡ takenIn state bytes room .live
-  pub rest : drop size (keptIn state bytes room) ≡ drop size state
-
+-- and in a state afterwards the stream that a chunk comes to
 abbrev pub Keeps : Type 0
-Keeps = (state bytes : List ℕ) (room : ℕ) → Bytes state → Bytes bytes → isState state ≡ true → Kept state bytes room
+Keeps = (state bytes : List ℕ) (room : ℕ) (l : Live) → ((i : ℕ) → byte bytes i < 256) → Stands state l
+    → Stands (over (imageOf (chunkOf l bytes room .live)) state) (chunkOf l bytes room .live)
+
+-- "Any two outcomes allowed by a contract are proved the same": P allows one of each stream, and N one where none stands
+abbrev pub OnSettled : Type 1
+OnSettled = (A : Type 0) (state : List ℕ) (P : Live → A → Type 0) (N : A → Type 0) → ((l : Live) (v w : A) → P l v → P l w → v ≡ w)
+    → ((v w : A) → N v → N w → v ≡ w) → (v w : A) → On state (λ l. P l v) (N v) → On state (λ l. P l w) (N w) → v ≡ w

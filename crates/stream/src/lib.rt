@@ -2,7 +2,11 @@
 use edition::Edition;
 ghost use mathlib.Core.Path.{_≡_};
 ghost use lib.ListN.{length};
-ghost use Rattle.stream.specs.Stream.{startOf, startedIn, toldOf, keptIn, outputOf, endIn, appliedIn};
+ghost use Rattle.fold.specs.Output.{bytesOf, over};
+ghost use Rattle.wire.specs.Bytes.{leBytes};
+ghost use Rattle.live.specs.Live.{chunkOf, endOf};
+ghost use Rattle.image.specs.Image.{imageOf};
+ghost use Rattle.stream.specs.Stream.{startOf, startedIn, On};
 
 // The refusal, 0 for none, and how many readings were written.
 pub struct Told {
@@ -25,9 +29,9 @@ pub fn start(edition: u64, state: &mut [u8]) -> u8
 }
 
 pub fn chunk(state: &mut [u8], bytes: &[u8], out: &mut [u8]) -> Told
-    ensures { λ r. ⌜ r ≡ toldOf (now (state .entry)) (now (bytes .entry)) (length (now (out .entry))) ⌝ }
-    ensures { λ _. ⌜ now (state .exit) ≡ keptIn (now (state .entry)) (now (bytes .entry)) (length (now (out .entry))) ⌝ }
-    ensures { λ _. ⌜ now (out .exit) ≡ outputOf (now (state .entry)) (now (bytes .entry)) (now (out .entry)) ⌝ }
+    ensures { λ r. ⌜ On (now (state .entry)) (λ l. r ≡ record { refused = chunkOf l (now (bytes .entry)) (length (now (out .entry))) .refused; readings = length (chunkOf l (now (bytes .entry)) (length (now (out .entry))) .readings) }) (r ≡ record { refused = 19; readings = 0 }) ⌝ }
+    ensures { λ _. ⌜ On (now (state .entry)) (λ l. now (state .exit) ≡ over (imageOf (chunkOf l (now (bytes .entry)) (length (now (out .entry))) .live)) (now (state .entry))) (now (state .exit) ≡ now (state .entry)) ⌝ }
+    ensures { λ _. ⌜ On (now (state .entry)) (λ l. now (out .exit) ≡ over (bytesOf (leBytes 8) (chunkOf l (now (bytes .entry)) (length (now (out .entry))) .readings)) (now (out .entry))) (now (out .exit) ≡ now (out .entry)) ⌝ }
 {
     if image::is_state(state) {
         let c = live::chunk(image::load(state), bytes, out);
@@ -45,7 +49,7 @@ pub fn chunk(state: &mut [u8], bytes: &[u8], out: &mut [u8]) -> Told
 }
 
 pub fn end(state: &[u8]) -> u8
-    ensures { λ r. ⌜ r ≡ endIn (now (state .entry)) ⌝ }
+    ensures { λ r. ⌜ On (now (state .entry)) (λ l. r ≡ endOf l) (r ≡ 19) ⌝ }
 {
     if image::is_state(state) {
         return live::end(image::load(state));
@@ -54,7 +58,7 @@ pub fn end(state: &[u8]) -> u8
 }
 
 pub fn applied(state: &[u8]) -> u64
-    ensures { λ r. ⌜ r ≡ appliedIn (now (state .entry)) ⌝ }
+    ensures { λ r. ⌜ On (now (state .entry)) (λ l. r ≡ l .applied) (r ≡ 0) ⌝ }
 {
     if image::is_state(state) {
         return wire::le64(state, 8);

@@ -19,8 +19,8 @@ use Rattle.judge.proofs.Numbers.{in-bytes}
 use Rattle.text.specs.Text.{linesOf, readingsIn, stopText}
 use Rattle.text.proofs.Room.{lines-below}
 use Rattle.printed.proofs.Prints.{put-counts}
-use Rattle.live.specs.Live.{Live, Taken, finished, takenOf, chunkOf, writtenBy, endOf}
-use Rattle.live.specs.How.{liveOf, Good, Comes}
+use Rattle.live.specs.Live.{Live, Taken, takenOf, chunkOf, endOf}
+use Rattle.live.specs.How.{finished, liveOf, Good, Comes, writtenBy}
 use Rattle.live.specs.declared.Stream.{Stream}
 use Rattle.live.specs.declared.Chunked.{Chunked}
 use Rattle.live.proofs.Ways.{Way, again, taken, not-taken, with-room, way}

@@ -1,7 +1,7 @@
 use mathlib.Core.Path.{_≡_}
 use Prim.Native.Nat.{_≤_, _-_}
-use Rattle.codec.specs.Codec.{okMany}
-use Rattle.image.specs.Image.{isCarried}
+use Rattle.codec.specs.How.{okMany}
+use Rattle.image.specs.How.{isCarried}
 use Rattle.image.proofs.Steps.{test-none, carried-more, test-all}
 use borrow.Author.Needs.{needs}
 use Rattle.image.proofs.are_carried.Statement.{statement}

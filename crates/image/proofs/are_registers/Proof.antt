@@ -1,7 +1,7 @@
 use mathlib.Core.Path.{_≡_}
 use Prim.Native.Nat.{_≤_, _-_}
-use Rattle.codec.specs.Codec.{okMany, okWord}
-use Rattle.image_words.specs.Words.{isRegisters}
+use Rattle.codec.specs.How.{okMany, okWord}
+use Rattle.image_words.specs.How.{isRegisters}
 use Rattle.image.proofs.Steps.{test-none, registers-more, test-all}
 use borrow.Author.Needs.{needs}
 use Rattle.image.proofs.are_registers.Statement.{statement}

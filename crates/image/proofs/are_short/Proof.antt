@@ -1,6 +1,6 @@
 use mathlib.Core.Path.{_≡_}
 use Prim.Native.Nat.{_≤_, _-_}
-use Rattle.codec.specs.Codec.{okMany}
+use Rattle.codec.specs.How.{okMany}
 use Rattle.image.specs.How.{okQuick}
 use Rattle.image.proofs.Steps.{test-none, quick-more, test-all}
 use borrow.Author.Needs.{needs}

@@ -1,4 +1,4 @@
-use Rattle.image_words.specs.Words.{i2cNumber}
+use Rattle.image_words.specs.How.{i2cNumber}
 use borrow.Author.Needs.{needs}
 use Rattle.image_words.proofs.i2c_number.Statement.{statement}
 use Rattle.image_words.proofs.i2c_number.Tie as tie

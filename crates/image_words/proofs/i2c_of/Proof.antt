@@ -1,4 +1,4 @@
-use Rattle.image_words.specs.Words.{i2cOf}
+use Rattle.image_words.specs.How.{i2cOf}
 use borrow.Author.Needs.{needs}
 use Rattle.image_words.proofs.i2c_of.Statement.{statement}
 use Rattle.image_words.proofs.i2c_of.Tie as tie

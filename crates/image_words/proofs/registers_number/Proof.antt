@@ -1,4 +1,4 @@
-use Rattle.image_words.specs.Words.{registersNumber}
+use Rattle.image_words.specs.How.{registersNumber}
 use borrow.Author.Needs.{needs}
 use Rattle.image_words.proofs.registers_number.Statement.{statement}
 use Rattle.image_words.proofs.registers_number.Tie as tie

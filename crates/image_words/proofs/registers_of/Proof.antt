@@ -1,4 +1,4 @@
-use Rattle.image_words.specs.Words.{registersOf}
+use Rattle.image_words.specs.How.{registersOf}
 use borrow.Author.Needs.{needs}
 use Rattle.image_words.proofs.registers_of.Statement.{statement}
 use Rattle.image_words.proofs.registers_of.Tie as tie

@@ -1,4 +1,4 @@
-use Rattle.image_words.specs.Words.{waveNumber}
+use Rattle.image_words.specs.How.{waveNumber}
 use borrow.Author.Needs.{needs}
 use Rattle.image_words.proofs.wave_number.Statement.{statement}
 use Rattle.image_words.proofs.wave_number.Tie as tie

@@ -1,4 +1,4 @@
-use Rattle.image_words.specs.Words.{waveOf}
+use Rattle.image_words.specs.How.{waveOf}
 use borrow.Author.Needs.{needs}
 use Rattle.image_words.proofs.wave_of.Statement.{statement}
 use Rattle.image_words.proofs.wave_of.Tie as tie

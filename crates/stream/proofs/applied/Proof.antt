@@ -1,6 +1,8 @@
 -- `stream::applied` meets its contract. Assumes nothing.
+use mathlib.Core.Path.{refl}
+use mathlib.Core.Logic.{inr}
 use borrow.Author.Needs.{needs}
-use Rattle.stream.proofs.Ways.{long, applied-told, none-applied}
+use Rattle.stream.proofs.Ways.{long, applied-told, nothing}
 use Rattle.stream.proofs.applied.Statement.{statement}
 use Rattle.stream.proofs.applied.Tie as tie
 
@@ -11,4 +13,4 @@ applied-spec =
     (λ c κs. search needs)
     (λ c κs. search long)
     (λ c. search applied-told)
-    (λ c. search none-applied))
+    (λ c. inr (search nothing, refl)))

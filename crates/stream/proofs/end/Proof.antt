@@ -1,6 +1,8 @@
 -- `stream::end` meets its contract. Assumes nothing.
+use mathlib.Core.Path.{refl}
+use mathlib.Core.Logic.{inr}
 use borrow.Author.Needs.{needs}
-use Rattle.stream.proofs.Ways.{is-state, good, ends, none-end}
+use Rattle.stream.proofs.Ways.{is-state, good, ends, nothing}
 use Rattle.stream.proofs.end.Statement.{statement}
 use Rattle.stream.proofs.end.Tie as tie
 
@@ -12,4 +14,4 @@ end-spec =
     (λ c κs. search is-state)
     (λ c κs. search needs)
     (λ c. ends _ _ (c .before .before .before .is-state .ensures) (c .before .before .if1 .taken) (c .before .before .before .before .shared-slice-known .given) _ (c .before .load .ensures) _ (c .end .ensures))
-    (λ c. search none-end))
+    (λ c. inr (search nothing, refl)))

@@ -12,4 +12,7 @@ rvz-stream-chunk-spec =
     (λ c κs. search needs)
     (λ c. search needs)
     (λ c. search needs)
-    (λ c. (search chunk-word, (search needs, search needs))))
+    (λ c.
+    let k = c .before .before .before .before .before .before in
+    let start = k .before .before .before .before .before .before in
+    (chunk-word _ (start .args .state .now) (start .args .chunk .now) _ _ (k .chunk .ensures .0) (c .word .ensures), (search needs, search needs))))

@@ -1,6 +1,6 @@
 -- `rivandoze::logs::rvz_stream_end` meets its contract. Assumes nothing.
 use borrow.Author.Needs.{needs}
-use Rattle.rivandoze.proofs.Words.{number-word}
+use Rattle.rivandoze.proofs.Words.{end-word}
 use Rattle.rivandoze.proofs.logs.rvz_stream_end.Statement.{statement}
 use Rattle.rivandoze.proofs.logs.rvz_stream_end.Tie as tie
 
@@ -10,4 +10,4 @@ rvz-stream-end-spec =
     (tie.spec
     (λ c κs. search needs)
     (λ c κs. search needs)
-    (λ c. search number-word))
+    (λ c. search end-word))

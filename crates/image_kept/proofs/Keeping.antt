@@ -1,16 +1,16 @@
--- The facts of specs/Facts.antt.
+-- A record leaves every register in its range: the state of a stream has an image, after any records too.
 -- Assumes nothing.
-use mathlib.Core.Path.{_≡_, refl, sym, ap, _∙_, subst}
-use mathlib.Core.Bool.{Bool, true, false, cond, _&&_, _||_}
+use mathlib.Core.Path.{_≡_, refl, sym, _∙_, subst}
+use mathlib.Core.Bool.{Bool, true, false}
 use mathlib.Core.List.{List}
-use mathlib.Core.Logic.{_⊎_, inl, inr}
-use Prim.Native.Nat.{ℕ, _^_, _<_}
+use mathlib.Core.Logic.{inl, inr}
+use Prim.Native.Nat.{ℕ, _<_}
 use native.Mathlib.Omega.{arith}
-use lib.Dec.{eqb, leb}
-use lib.ListN.{length, length-set}
+use lib.Dec.{eqb}
+use lib.ListN.{length-set}
 use borrow.Author.Tests.{eqb-true, eqb-false, le-leb, ne-eqb}
 use Rattle.laws.proofs.Each.{length-each, each-keeps, set-keeps, fresh-keeps}
-use Rattle.fold.specs.Turn.{Turn, goes, reads, refused, leaves}
+use Rattle.fold.specs.Turn.{Turn, goes, refused, leaves}
 use Rattle.fold.specs.Run.{Course, going, stopped, runOf}
 use Rattle.fold.specs.Output.{numberOf}
 use Rattle.fold.proofs.Laws.{keeps, stopped-by}
@@ -36,8 +36,8 @@ use Rattle.banks.proofs.Whole.{Both, holds-first, holds-one, holds-both}
 use Rattle.walk.specs.Turn.{turnOf}
 use Rattle.walk.proofs.Replaying.{by-turn, lift-refused}
 use Rattle.image_words.specs.Words.{FitsI2c, FitsEncoder, FitsPwm}
-use Rattle.image.specs.Image.{isRefusal, FitsBank, FitsState}
-use Rattle.image_kept.specs.Facts.{Kept}
+use Rattle.image.specs.Image.{FitsBank}
+use Rattle.image.specs.How.{isRefusal, FitsState}
 use Rattle.image_kept.proofs.Blocks.{fresh-encoder, on-select, on-cnfg, on-pins, fresh-pwm, on-write, on-ticks, fresh-i2c, on-i2c, on-answer}
 
 -- ---- one bank
@@ -46,46 +46,38 @@ one-encoder : (i : ℕ) (b : Bank) (e : Encoder) → FitsEncoder e → FitsBank 
 one-encoder i b e g f = record {
   select = f .select;
   i2c = f .i2c;
-  ten = length-set (b .encoders) i e ∙ f .ten;
-  encoder = set-keeps FitsEncoder encoder.fresh (b .encoders) i e g (f .encoder);
-  twenty = f .twenty;
-  pwm = f .pwm;
+  encoders = (length-set (b .encoders) i e ∙ f .encoders .0, set-keeps FitsEncoder encoder.fresh (b .encoders) i e g (f .encoders .1));
+  pwms = f .pwms;
 }
 
 one-pwm : (i : ℕ) (b : Bank) (p : Pwm) → FitsPwm p → FitsBank b → FitsBank (withPwm i b p)
 one-pwm i b p g f = record {
   select = f .select;
   i2c = f .i2c;
-  ten = f .ten;
-  encoder = f .encoder;
-  twenty = length-set (b .pwms) i p ∙ f .twenty;
-  pwm = set-keeps FitsPwm pwm.fresh (b .pwms) i p g (f .pwm);
+  encoders = f .encoders;
+  pwms = (length-set (b .pwms) i p ∙ f .pwms .0, set-keeps FitsPwm pwm.fresh (b .pwms) i p g (f .pwms .1));
 }
 
 the-i2c : (b : Bank) (c : I2c) → FitsI2c c → FitsBank b → FitsBank (withI2c b c)
-the-i2c b c g f = record { select = f .select; i2c = g; ten = f .ten; encoder = f .encoder; twenty = f .twenty; pwm = f .pwm }
+the-i2c b c g f = record { select = f .select; i2c = g; encoders = f .encoders; pwms = f .pwms }
 
 passes : (e : Edition) (b : Bank) (s : List ℕ) (r : Record) → Formed s r → FitsBank b → FitsBank (leaves b (passing e b r))
 passes e b s (WriteSelect v) m f = record {
   select = m .1;
   i2c = f .i2c;
-  ten = length-each (reroute (e .port) (b .select) v) 0 (b .encoders) ∙ f .ten;
-  encoder = each-keeps FitsEncoder encoder.fresh (reroute (e .port) (b .select) v) (λ i x. on-select (encoderRouted (e .port) (b .select) i) (encoderRouted (e .port) v i) x) 0 (b .encoders) (f .encoder);
-  twenty = f .twenty;
-  pwm = f .pwm;
+  encoders = (length-each (reroute (e .port) (b .select) v) 0 (b .encoders) ∙ f .encoders .0, each-keeps FitsEncoder encoder.fresh (reroute (e .port) (b .select) v) (λ i x. on-select (encoderRouted (e .port) (b .select) i) (encoderRouted (e .port) v i) x) 0 (b .encoders) (f .encoders .1));
+  pwms = f .pwms;
 }
-passes e b s (WriteEncoder i v) m f = one-encoder i b _ (on-cnfg v (encoderAt i b) (m .2) (f .encoder i)) f
-passes e b s (Pins i v) m f = one-encoder i b _ (on-pins v (encoderAt i b) (m .2) (f .encoder i)) f
-passes e b s (WritePwm i g v) m f = one-pwm i b _ (on-write g v (pwmAt i b) (m .2) (m .3) (f .pwm i)) f
+passes e b s (WriteEncoder i v) m f = one-encoder i b _ (on-cnfg v (encoderAt i b) (m .2) (f .encoders .1 i)) f
+passes e b s (Pins i v) m f = one-encoder i b _ (on-pins v (encoderAt i b) (m .2) (f .encoders .1 i)) f
+passes e b s (WritePwm i g v) m f = one-pwm i b _ (on-write g v (pwmAt i b) (m .2) (m .3) (f .pwms .1 i)) f
 passes e b s (WriteI2c g v) m f = the-i2c b _ (on-i2c g v (b .i2c) (m .1) (m .2) (f .i2c)) f
 passes e b s (Answer v) m f = the-i2c b _ (on-answer v (b .i2c) (m .1) (f .i2c)) f
 passes e b s (Ticks t) m f = record {
   select = f .select;
   i2c = f .i2c;
-  ten = f .ten;
-  encoder = f .encoder;
-  twenty = length-each (tickRouted e (b .select) t) 0 (b .pwms) ∙ f .twenty;
-  pwm = each-keeps FitsPwm pwm.fresh (tickRouted e (b .select) t) (λ i p. on-ticks (e .runs) (pwmRouted (e .port) (b .select) i) t p) 0 (b .pwms) (f .pwm);
+  encoders = f .encoders;
+  pwms = (length-each (tickRouted e (b .select) t) 0 (b .pwms) ∙ f .pwms .0, each-keeps FitsPwm pwm.fresh (tickRouted e (b .select) t) (λ i p. on-ticks (e .runs) (pwmRouted (e .port) (b .select) i) t p) 0 (b .pwms) (f .pwms .1));
 }
 passes e b s ReadSelect m f = f
 passes e b s (ReadEncoder i g) m f = f
@@ -104,19 +96,20 @@ unfolding bank.fresh
 bank-first = record {
   select = omega arith;
   i2c = fresh-i2c;
-  ten = refl;
-  encoder = fresh-keeps FitsEncoder encoder.fresh fresh-encoder 10;
-  twenty = refl;
-  pwm = fresh-keeps FitsPwm pwm.fresh fresh-pwm 20;
+  encoders = (refl, fresh-keeps FitsEncoder encoder.fresh fresh-encoder 10);
+  pwms = (refl, fresh-keeps FitsPwm pwm.fresh fresh-pwm 20);
 }
 
 -- ---- both
 
 to-both : (s : State) → FitsState s → Both FitsBank s
-to-both s f = record { two = f .two; each = f .each }
+to-both s f = record { two = f .0; each = f .1 }
 
 from-both : (s : State) → Both FitsBank s → FitsState s
-from-both s f = record { two = f .two; each = f .each }
+from-both s f = (f .two, f .each)
+
+pub state-first : FitsState fresh
+state-first = from-both fresh (holds-first FitsBank bank-first)
 
 turn-kept : (e : Edition) (s : State) (bytes : List ℕ) → FitsState s → FitsState (leaves s (turnOf e s bytes))
 turn-kept e s bytes f =
@@ -125,7 +118,10 @@ turn-kept e s bytes f =
     (by-turn e s bytes (λ t. Both FitsBank (leaves s t)) (λ n x. w) (λ r x k. holds-both FitsBank (λ b. leaves b (bank.turnOf e b r)) s (λ b. bank-kept e b bytes r (formed e bytes r x)) w)
     (λ r x k. holds-one FitsBank (bankOf bytes) s (bank.turnOf e (bankAt (bankOf bytes) s) r) (bank-kept e (bankAt (bankOf bytes) s) bytes r (formed e bytes r x) (w .each (bankOf bytes) (bank-formed e bytes r x))) w))
 
--- ---- what stops a run
+pub run-kept : (e : Edition) (s : State) (rs : List (List ℕ)) → FitsState s → FitsState (runOf (turnOf e) s rs .state)
+run-kept e s rs f = keeps (turnOf e) FitsState (λ t r. turn-kept e t r) s rs f
+
+-- ---- what stops a run is a refusal of a record
 
 -- 7 to 11, or 16, or 18
 by-range : (n : ℕ) → 6 < n → n < 12 → isRefusal n ≡ true
@@ -153,10 +149,5 @@ by-course : (c : Course) → ((k : ℕ) → c ≡ stopped k → isRefusal k ≡ 
 by-course going h = refl
 by-course (stopped k) h = h k refl
 
-pub kept : Kept
-kept = record {
-  first = from-both fresh (holds-first FitsBank bank-first);
-  turn = turn-kept;
-  run = λ e s rs f. keeps (turnOf e) FitsState (λ t r. turn-kept e t r) s rs f;
-  number = λ e s rs. by-course (runOf (turnOf e) s rs .course) (stopped-by (turnOf e) (λ (k : ℕ). isRefusal k ≡ true) (turn-number-is e) s rs);
-}
+pub run-refusal : (e : Edition) (s : State) (rs : List (List ℕ)) → isRefusal (numberOf (runOf (turnOf e) s rs .course)) ≡ true
+run-refusal e s rs = by-course (runOf (turnOf e) s rs .course) (stopped-by (turnOf e) (λ (k : ℕ). isRefusal k ≡ true) (turn-number-is e) s rs)
