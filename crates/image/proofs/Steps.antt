@@ -171,40 +171,35 @@ module _ (out₀ l : List ℕ) where
     pub carried-done : i ≤ 16 → 16 ≤ i → out ≡ sets out₀ 16 l
     carried-done h k = here ∙ ap (sets out₀ 16) (take-all i l (omega arith))
 
-module _ (out₀ : List ℕ) (f : Flat) where
+module _ (out₀ : List ℕ) (l : List Encoder) where
   abbrev pub encoders-in : ℕ → List ℕ
-  encoders-in i = saved 8 (saveWord lowNumber) (λ x. refl) out₀ 64 i (f .encoders)
+  encoders-in i = saved 8 (saveWord lowNumber) (λ x. refl) out₀ 64 i l
 
   pub encoders-out : out₀ ≡ encoders-in 0
-  encoders-out = saved-none 8 (saveWord lowNumber) (λ x. refl) out₀ 64 (f .encoders)
+  encoders-out = saved-none 8 (saveWord lowNumber) (λ x. refl) out₀ 64 l
 
+  module _ (encoders-long : length l ≡ 20) where
+    module _ (out : List ℕ) (i : ℕ) (here : out ≡ encoders-in i) where
+      pub encoders-on : (d : Encoder) (v : ℕ) (out′ : List ℕ) → i < 20 → v ≡ lowNumber (getD l i d) → out′ ≡ sets out (64 + 8 * i) (leBytes 8 v) → out′ ≡ encoders-in (i + 1)
+      encoders-on d v out′ h p q = q ∙ rw (p, here) (saved-more 8 (saveWord lowNumber) (λ x. refl) out₀ 64 l i d (omega (arith, encoders-long)))
+
+      pub encoders-done : i ≤ 20 → 20 ≤ i → out ≡ sets out₀ 64 (saveMany (saveWord lowNumber) l)
+      encoders-done h k = here ∙ saved-all 8 (saveWord lowNumber) (λ x. refl) out₀ 64 l i 20 encoders-long h k
+
+module _ (out₀ : List ℕ) (l : List Pwm) where
   abbrev pub pwms-in : ℕ → List ℕ
-  pwms-in i = saved 16 savePwm (λ x. refl) out₀ 224 i (f .pwms)
+  pwms-in i = saved 16 savePwm (λ x. refl) out₀ 224 i l
 
   pub pwms-out : out₀ ≡ pwms-in 0
-  pwms-out = saved-none 16 savePwm (λ x. refl) out₀ 224 (f .pwms)
+  pwms-out = saved-none 16 savePwm (λ x. refl) out₀ 224 l
 
-  module _ {Y : Type 0} (g : Encoder → Y) (known : length (map g (f .encoders)) ≡ 20) where
-    pub encoders-long : length (f .encoders) ≡ 20
-    encoders-long = long-field _ _ g (f .encoders) 20 known
-
-    module _ (out : List ℕ) (i : ℕ) (here : out ≡ encoders-in i) where
-      pub encoders-on : (d : Encoder) (v : ℕ) (out′ : List ℕ) → i < 20 → v ≡ lowNumber (getD (f .encoders) i d) → out′ ≡ sets out (64 + 8 * i) (leBytes 8 v) → out′ ≡ encoders-in (i + 1)
-      encoders-on d v out′ h p q = q ∙ rw (p, here) (saved-more 8 (saveWord lowNumber) (λ x. refl) out₀ 64 (f .encoders) i d (omega (arith, encoders-long)))
-
-      pub encoders-done : i ≤ 20 → 20 ≤ i → out ≡ sets out₀ 64 (saveMany (saveWord lowNumber) (f .encoders))
-      encoders-done h k = here ∙ saved-all 8 (saveWord lowNumber) (λ x. refl) out₀ 64 (f .encoders) i 20 encoders-long h k
-
-  module _ {Y : Type 0} (g : Pwm → Y) (known : length (map g (f .pwms)) ≡ 40) where
-    pub pwms-long : length (f .pwms) ≡ 40
-    pwms-long = long-field _ _ g (f .pwms) 40 known
-
+  module _ (pwms-long : length l ≡ 40) where
     module _ (out : List ℕ) (i : ℕ) (here : out ≡ pwms-in i) where
-      pub pwms-on : (d : Pwm) (out′ : List ℕ) → i < 40 → out′ ≡ sets out (224 + 16 * i) (savePwm (getD (f .pwms) i d)) → out′ ≡ pwms-in (i + 1)
-      pwms-on d out′ h q = q ∙ rw here (saved-more 16 savePwm (λ x. refl) out₀ 224 (f .pwms) i d (omega (arith, pwms-long)))
+      pub pwms-on : (d : Pwm) (out′ : List ℕ) → i < 40 → out′ ≡ sets out (224 + 16 * i) (savePwm (getD l i d)) → out′ ≡ pwms-in (i + 1)
+      pwms-on d out′ h q = q ∙ rw here (saved-more 16 savePwm (λ x. refl) out₀ 224 l i d (omega (arith, pwms-long)))
 
-      pub pwms-done : i ≤ 40 → 40 ≤ i → out ≡ sets out₀ 224 (saveMany savePwm (f .pwms))
-      pwms-done h k = here ∙ saved-all 16 savePwm (λ x. refl) out₀ 224 (f .pwms) i 40 pwms-long h k
+      pub pwms-done : i ≤ 40 → 40 ≤ i → out ≡ sets out₀ 224 (saveMany savePwm l)
+      pwms-done h k = here ∙ saved-all 16 savePwm (λ x. refl) out₀ 224 l i 40 pwms-long h k
 
 -- two words in a row
 pub pwm-put : (p : Pwm) (at v w : ℕ) (o₀ o₁ o₂ : List ℕ) → v ≡ registersNumber (p .registers) → w ≡ waveNumber (p .wave) → o₁ ≡ sets o₀ at (leBytes 8 v) → o₂ ≡ sets o₁ (at + 8) (leBytes 8 w) → o₂ ≡ sets o₀ at (savePwm p)

@@ -218,13 +218,13 @@ fn save_firsts(f: Flat, out: &mut [u8])
     put64(out, 56, i2c_number(b));
 }
 
-fn save_encoders(f: Flat, out: &mut [u8])
+fn save_encoders(encoders: [Encoder; 20], out: &mut [u8])
     requires { ⌜ size ≤ length (now out) ⌝ }
-    ensures { λ _. ⌜ now (out .exit) ≡ sets (now (out .entry)) 64 (saveMany (saveWord lowNumber) (f .encoders)) ⌝ }
-    ensures { λ _. ⌜ length (f .encoders) ≡ 20 ⌝ }
+    ensures { λ _. ⌜ now (out .exit) ≡ sets (now (out .entry)) 64 (saveMany (saveWord lowNumber) encoders) ⌝ }
+    ensures { λ _. ⌜ length encoders ≡ 20 ⌝ }
 {
     for i in 0..20 {
-        let e = f.encoders[i];
+        let e = encoders[i];
         put64(out, 64 + 8 * i, encoder_number(e));
     }
 }
@@ -239,14 +239,13 @@ fn put_pwm(p: Pwm, at: usize, out: &mut [u8])
     put64(out, at + 8, wave_number(w));
 }
 
-fn save_pwms(f: Flat, out: &mut [u8])
+fn save_pwms(pwms: [Pwm; 40], out: &mut [u8])
     requires { ⌜ size ≤ length (now out) ⌝ }
-    ensures { λ _. ⌜ now (out .exit) ≡ sets (now (out .entry)) 224 (saveMany savePwm (f .pwms)) ⌝ }
-    ensures { λ _. ⌜ length (f .pwms) ≡ 40 ⌝ }
+    ensures { λ _. ⌜ now (out .exit) ≡ sets (now (out .entry)) 224 (saveMany savePwm pwms) ⌝ }
+    ensures { λ _. ⌜ length pwms ≡ 40 ⌝ }
 {
     for i in 0..40 {
-        let p = f.pwms[i];
-        put_pwm(p, 224 + 16 * i, out);
+        put_pwm(pwms[i], 224 + 16 * i, out);
     }
 }
 
@@ -256,11 +255,13 @@ pub fn save(x: Stream, out: &mut [u8])
     ensures { λ _. ⌜ now (out .exit) ≡ imageOf (liveOf x) ++ drop size (now (out .entry)) ⌝ }
 {
     let f = x.flat;
+    let encoders = f.encoders;
+    let pwms = f.pwms;
     let carried = x.carried;
     put64(out, 0, head_number(x.refused, x.held, x.edition));
     put64(out, 8, x.applied);
     save_carried(carried, out);
     save_firsts(f, out);
-    save_encoders(f, out);
-    save_pwms(f, out);
+    save_encoders(encoders, out);
+    save_pwms(pwms, out);
 }
