@@ -1,14 +1,17 @@
 -- The line that is spelt from an entry's bytes is the entry's. Assumes nothing.
 use mathlib.Core.Path.{_≡_, refl, sym, ap, _∙_}
+use mathlib.Core.Bool.{Bool, true, false, cond}
 use mathlib.Core.List.{List, [], _∷_, _++_, map, append-assoc, append-nil}
 use Prim.Native.Nat.{ℕ, zero, suc, _+_, _-_, _*_, _/_, _%_, _<_, _≤_}
 use native.Mathlib.Nat.{add-zero}
 use native.Mathlib.Numerals.{add-one}
 use native.Mathlib.Omega.{arith}
-use lib.IntN.{ℤ, pos, negsuc, natAbs, subℕ}
+use lib.Dec.{ltb}
+use lib.IntN.{ℤ, pos, negsuc, natAbs, subℕ, _+ℤ_, _-ℤ_}
 use lib.ListN.{length, take, drop, getD, length-append}
 use lib.Seq.{take-suc, split-at, length-take-le}
-use borrow.Author.Tests.{lt-ltb, le-ltb}
+use borrow.Author.Tests.{lt-ltb, le-ltb, ltb-true, ltb-false}
+use Rattle.decimal.specs.Digits.{digitsOf}
 use Rattle.fold.specs.Run.{concat}
 use Rattle.fold.specs.Output.{over}
 use Rattle.shaft.specs.Shaft.{forward, backward, still}
@@ -21,33 +24,78 @@ use Rattle.sign.proofs.Counted.{below}
 use Rattle.sign.proofs.Listing.{length-concat, concat-more, entry-long}
 use Rattle.sign.proofs.Adding.{eight}
 use Rattle.sign.proofs.Settling.{few-verdicts, each-at}
-use Rattle.sign_print.specs.Said.{placeText, sumsText, travelText, verdictText, stretchText}
-use Rattle.sign_print.specs.How.{aheadOf, backOf, openText, numberedText, foundText, speltBy, spelt, speltAt, There}
+use Rattle.sign_print.specs.Said.{bankWord, encoderWord, recordsWord, toWord, comma, pinWord, stepWord, doubleWord, travelWord, plural, counted, signed, placeText, sumsText, travelText, verdictText, stretchText}
+use Rattle.sign_print.specs.How.{wholeOf, pluralText, formText, stretchForm, unturnedText, numberedText, spelt, speltAt, There}
 
 -- ---- an entry's four numbers
 
 numbered : (v : Verdict) (size d : ℕ) → numberedText (verdictNumber v) size d ≡ verdictText v size d
-unfolding numberedText openText
+unfolding numberedText unturnedText
 numbered (settled forward) size d = refl
 numbered (settled backward) size d = refl
 numbered (settled still) size d = refl
 numbered unsettled size d = refl
 
--- two's complement gives the number back
-whole : (z : ℤ) → natAbs z < 2048 → subℕ (aheadOf (complement z)) (backOf (complement z)) ≡ z
-whole (pos n) h =
-    let e : n % 18446744073709551616 ≡ n = omega arith in
-    let f : n - 0 ≡ n = omega arith in
-    rw (e, lt-ltb n 9223372036854775808 (omega arith), le-ltb n 0 (omega arith), f)
-whole (negsuc n) h =
-    let e : n % 18446744073709551616 ≡ n = omega arith in
-    let f : 18446744073709551616 - (18446744073709551615 - n) ≡ suc n = omega arith in
-    let g : suc n - 1 ≡ n = omega arith in
-    rw (e, le-ltb (18446744073709551615 - n) 9223372036854775808 (omega arith), f, lt-ltb 0 (suc n) (omega arith), g)
+-- two's complement gives the number back, and what is m more or less
+up : (n : ℕ) → n < 9223372036854775808 → wholeOf n ≡ pos n
+unfolding wholeOf
+up n h = rw (lt-ltb n 9223372036854775808 h)
 
-spelt-by : (n x b i v f l m d : ℕ) (s : ℤ) → n % 256 ≡ b → n / 256 % 256 ≡ i → n / 65536 % 256 ≡ v → n / 4294967296 ≡ f → x % 4294967296 ≡ l → x / 4294967296 ≡ m
-    → speltBy n x s d ≡ line (placeText b i f l ++ sumsText m s d ++ (travelText s d ++ numberedText v (natAbs s) d))
-unfolding speltBy foundText
+down : (n : ℕ) → n < 9223372036854775808 → wholeOf (18446744073709551615 - n) ≡ negsuc n
+unfolding wholeOf
+down n h =
+    let e : 18446744073709551615 - (18446744073709551615 - n) ≡ n = omega arith in
+    rw (le-ltb (18446744073709551615 - n) 9223372036854775808 (omega arith), e)
+
+difference : (r a b : ℕ) → r < 18446744073709551616 → a < 9223372036854775808 → b < 9223372036854775808 → (r + b) % 18446744073709551616 ≡ a → wholeOf r ≡ subℕ a b
+difference r a b h k l e = by (ltb a b) refl
+  where
+    by : (t : Bool) → ltb a b ≡ t → wholeOf r ≡ cond t (negsuc (b - suc a)) (pos (a - b))
+    by true f =
+        let g : r ≡ 18446744073709551615 - (b - suc a) = omega (arith, ltb-true a b f) in
+        ap wholeOf g ∙ down (b - suc a) (omega arith)
+    by false f =
+        let g : r ≡ a - b = omega (arith, ltb-false a b f) in
+        ap wholeOf g ∙ up (a - b) (omega arith)
+
+whole : (z : ℤ) → natAbs z < 2048 → wholeOf (complement z) ≡ z
+whole (pos n) h = let e : n % 18446744073709551616 ≡ n = omega arith in ap wholeOf e ∙ up n (omega arith)
+whole (negsuc n) h = let e : n % 18446744073709551616 ≡ n = omega arith in ap (λ (k : ℕ). wholeOf (18446744073709551615 - k)) e ∙ down n (omega arith)
+
+module _ (m : ℕ) (few : m < 4096) where
+  less : (z : ℤ) → natAbs z < 2048 → wholeOf ((complement z + 18446744073709551616 - m) % 18446744073709551616) ≡ z -ℤ pos m
+  less (pos n) h = by m few
+    where
+      by : (k : ℕ) → k < 4096 → wholeOf ((n % 18446744073709551616 + 18446744073709551616 - k) % 18446744073709551616) ≡ pos n -ℤ pos k
+      by zero l = let e : (n % 18446744073709551616 + 18446744073709551616 - 0) % 18446744073709551616 ≡ n + 0 = omega arith in ap wholeOf e ∙ up (n + 0) (omega arith)
+      by (suc k) l = difference _ n (suc k) (omega arith) (omega arith) (omega arith) (omega arith)
+  less (negsuc n) h = by m few
+    where
+      by : (k : ℕ) → k < 4096 → wholeOf ((18446744073709551615 - n % 18446744073709551616 + 18446744073709551616 - k) % 18446744073709551616) ≡ negsuc n -ℤ pos k
+      by zero l = difference _ 0 (suc n) (omega arith) (omega arith) (omega arith) (omega arith)
+      by (suc k) l =
+          let e : (18446744073709551615 - n % 18446744073709551616 + 18446744073709551616 - suc k) % 18446744073709551616 ≡ 18446744073709551615 - suc (n + k) = omega arith in
+          ap wholeOf e ∙ down (suc (n + k)) (omega arith)
+
+  further : (z : ℤ) → natAbs z < 2048 → wholeOf ((complement z + m) % 18446744073709551616) ≡ z +ℤ pos m
+  further (pos n) h = let e : (n % 18446744073709551616 + m) % 18446744073709551616 ≡ n + m = omega arith in ap wholeOf e ∙ up (n + m) (omega arith)
+  further (negsuc n) h = difference _ m (suc n) (omega arith) (omega arith) (omega arith) (omega arith)
+
+-- the form filled in
+grouped : (a b c d e f g h i j k l m n o p q r s t u : List ℕ) → a ++ (b ++ (c ++ (d ++ (e ++ (f ++ (g ++ (h ++ (i ++ (j ++ (k ++ (l ++ (i ++ (m ++ (n ++ (o ++ (i ++ (p ++ (q ++ (r ++ (s ++ (t ++ (g ++ (u ++ [])))))))))))))))))))))))
+    ≡ (a ++ b ++ c ++ d ++ e ++ f ++ g ++ h) ++ (i ++ (j ++ (k ++ l)) ++ (i ++ m ++ (n ++ o)) ++ i ++ (p ++ (q ++ r))) ++ (s ++ t ++ g ++ u)
+grouped a b c d e f g h i j k l m n o p q r s t u = simp (append-assoc, append-nil)
+
+form-is : (b i f l n s z d least most : ℕ) → formText stretchForm (b ∷ i ∷ f ∷ l ∷ n ∷ n ∷ s ∷ z ∷ d ∷ d ∷ least ∷ most ∷ [])
+    ≡ placeText b i f l ++ (comma ++ counted n pinWord ++ (comma ++ signed (wholeOf s) ++ plural stepWord z) ++ comma ++ counted d doubleWord) ++ (travelWord ++ signed (wholeOf least) ++ toWord ++ signed (wholeOf most))
+unfolding formText placeText
+form-is b i f l n s z d least most =
+    grouped bankWord (digitsOf b) encoderWord (digitsOf i) recordsWord (digitsOf f) toWord (digitsOf l) comma (digitsOf n) pinWord (pluralText n) (signed (wholeOf s)) stepWord (pluralText z) (digitsOf d) doubleWord (pluralText d) travelWord (signed (wholeOf least)) (signed (wholeOf most))
+
+spelt-by : (n x b i v f l m d s : ℕ) → n % 256 ≡ b → n / 256 % 256 ≡ i → n / 65536 % 256 ≡ v → n / 4294967296 ≡ f → x % 4294967296 ≡ l → x / 4294967296 ≡ m
+    → spelt n x s d ≡ formText stretchForm (b ∷ i ∷ f ∷ l ∷ m ∷ m ∷ s ∷ natAbs (wholeOf s) ∷ d ∷ d ∷ (s + 18446744073709551616 - 2 * d) % 18446744073709551616 ∷ (s + 2 * d) % 18446744073709551616 ∷ [])
+    ++ line (numberedText v (natAbs (wholeOf s)) d)
+unfolding spelt
 spelt-by n x b i v f l m d s eb ei ev ef el em = rw (eb, ei, ev, ef, el, em)
 
 module _ (e : Entry) (small : Fine e) where
@@ -61,13 +109,15 @@ module _ (e : Entry) (small : Fine e) where
   span = e .last + 4294967296 * e .number
 
   spelt-is : spelt names span (complement (e .steps)) (e .doubles) ≡ stretchText e
-  unfolding spelt stretchText
+  unfolding stretchText sumsText travelText
   spelt-is =
       let v = few-verdicts verdict in
-      ap (λ (z : ℤ). speltBy names span z (e .doubles)) (whole (e .steps) (small .steps))
-      ∙ spelt-by names span (e .bank) (e .encoder) (verdictNumber verdict) (e .first) (e .last) (e .number) (e .doubles) (e .steps) (omega arith) (omega arith) (omega arith) (omega arith) (omega arith) (omega arith)
-      ∙ ap (λ (t : List ℕ). line (placeText (e .bank) (e .encoder) (e .first) (e .last) ++ sumsText (e .number) (e .steps) (e .doubles) ++ (travelText (e .steps) (e .doubles) ++ t))) (numbered verdict (natAbs (e .steps)) (e .doubles))
-      ∙ ap line (sym (append-assoc (placeText (e .bank) (e .encoder) (e .first) (e .last) ++ sumsText (e .number) (e .steps) (e .doubles)) (travelText (e .steps) (e .doubles)) _))
+      let z = e .steps in
+      let d = e .doubles in
+      spelt-by names span (e .bank) (e .encoder) (verdictNumber verdict) (e .first) (e .last) (e .number) d (complement z) (omega arith) (omega arith) (omega arith) (omega arith) (omega arith) (omega arith)
+      ∙ ap (λ (l : List ℕ). l ++ line (numberedText (verdictNumber verdict) (natAbs (wholeOf (complement z))) d)) (form-is (e .bank) (e .encoder) (e .first) (e .last) (e .number) (complement z) (natAbs (wholeOf (complement z))) d _ _)
+      ∙ rw (whole z (small .steps), less (2 * d) (omega (arith, small .doubles)) z (small .steps), further (2 * d) (omega (arith, small .doubles)) z (small .steps), numbered verdict (natAbs z) d)
+      (sym (append-assoc (placeText (e .bank) (e .encoder) (e .first) (e .last) ++ sumsText (e .number) z d ++ travelText z d) (verdictText verdict (natAbs z) d) (10 ∷ [])))
 
   -- behind other bytes
   module _ (a rest : List ℕ) (at : ℕ) (is : at ≡ length a) where

@@ -1,46 +1,28 @@
 // What `rvz sign` prints: each stretch that `rvz_sign` finds on a line of words, then what the log's replay says. The text is built in one
 // buffer and written at once.
+use bits::number;
 use libc::STDIN_FILENO;
+use std::num::wrapping_add_u64;
+use std::num::wrapping_sub_u64;
 ghost use mathlib.Core.Path.{_≡_};
-ghost use mathlib.Core.List.{_++_};
 ghost use Prim.Native.Nat.{_+_, _-_, _*_, _<_, _≤_};
-ghost use lib.IntN.{natAbs, subℕ};
-ghost use lib.ListN.{length};
+ghost use lib.IntN.{natAbs};
+ghost use lib.ListN.{length, getD};
 ghost use Rattle.io.specs.Counts.{Counts};
-ghost use Rattle.decimal.specs.Digits.{digitsOf};
 ghost use Rattle.decimal.specs.Put.{Put};
-ghost use Rattle.sign_print.specs.Said.{plural, counted, signed, placeText, stepsText, sumsText, travelText, stretchesText, endText, signText};
-ghost use Rattle.sign_print.specs.How.{aheadOf, backOf, openText, numberedText, foundText, speltBy, spelt, speltAt, There, Entries};
+ghost use Rattle.text.specs.Text.{line};
+ghost use Rattle.sign_print.specs.Said.{signed, stretchesText, endText, signText};
+ghost use Rattle.sign_print.specs.How.{wholeOf, signPart, pluralText, partOf, takenBy, formText, unturnedText, numberedText, numbersOf, spelt, speltAt, There, Entries};
 
-// ---- numbers
+// ---- numbers, and two's complement ones
 
-// Two's complement, as what is ahead less what is back.
-fn ahead(steps: u64) -> u64
-    ensures { λ r. ⌜ (r ≡ aheadOf steps) × (r ≤ 9223372036854775808) ⌝ }
+fn size(n: u64) -> u64
+    ensures { λ r. ⌜ r ≡ natAbs (wholeOf n) ⌝ }
 {
-    if steps < 9223372036854775808 {
-        steps
-    } else {
-        0
+    if n < 9223372036854775808 {
+        return n;
     }
-}
-
-fn back(steps: u64) -> u64
-    ensures { λ r. ⌜ (r ≡ backOf steps) × (r ≤ 9223372036854775808) ⌝ }
-{
-    if steps < 9223372036854775808 {
-        return 0;
-    }
-    18446744073709551615 - steps + 1
-}
-
-fn size(ahead: u64, back: u64) -> u64
-    ensures { λ r. ⌜ r ≡ natAbs (subℕ ahead back) ⌝ }
-{
-    if ahead < back {
-        return back - ahead;
-    }
-    ahead - back
+    18446744073709551615 - n + 1
 }
 
 // By how many the steps are short of more than 2d.
@@ -54,135 +36,129 @@ fn short(size: u64, doubles: u64) -> u64
     2 * doubles + 1 - size
 }
 
-// ---- words
+// ---- a form with numbers in its places: # is the next one, ^ the next one with its sign, and ~ an s unless the next one is 1
 
-fn put_plural(text: &mut [u8], at: usize, word: &[u8], n: u64) -> usize
-    ensures { λ r. ⌜ Put (now (text .entry)) at (plural (now (word .entry)) n) (now (text .exit)) r ⌝ }
+fn put_sign(text: &mut [u8], at: usize, n: u64) -> usize
+    ensures { λ r. ⌜ Put (now (text .entry)) at (signPart n) (now (text .exit)) r ⌝ }
 {
-    let end = text::put_word(text, at, word);
+    if n == 0 {
+        return at;
+    }
+    if n < 9223372036854775808 {
+        return decimal::put_byte(text, at, b'+');
+    }
+    decimal::put_byte(text, at, b'-')
+}
+
+fn put_signed(text: &mut [u8], at: usize, n: u64) -> usize
+    ensures { λ r. ⌜ Put (now (text .entry)) at (signed (wholeOf n)) (now (text .exit)) r ⌝ }
+{
+    let end = put_sign(text, at, n);
+    decimal::put(text, end, size(n))
+}
+
+fn put_plural(text: &mut [u8], at: usize, n: u64) -> usize
+    ensures { λ r. ⌜ Put (now (text .entry)) at (pluralText n) (now (text .exit)) r ⌝ }
+{
     if n == 1 {
-        return end;
+        return at;
     }
-    decimal::put_byte(text, end, 115)
+    decimal::put_byte(text, at, b's')
 }
 
-// What comes before, and how many.
-fn put_counted(text: &mut [u8], at: usize, before: &[u8], n: u64, word: &[u8]) -> usize
-    ensures { λ r. ⌜ Put (now (text .entry)) at (now (before .entry) ++ counted n (now (word .entry))) (now (text .exit)) r ⌝ }
+fn put_part(text: &mut [u8], at: usize, b: u8, n: u64) -> usize
+    ensures { λ r. ⌜ Put (now (text .entry)) at (partOf b n) (now (text .exit)) r ⌝ }
 {
-    let end = text::put_count(text, at, before, n);
-    put_plural(text, end, word, n)
+    if b == b'#' {
+        return decimal::put(text, at, n);
+    }
+    if b == b'^' {
+        return put_signed(text, at, n);
+    }
+    if b == b'~' {
+        return put_plural(text, at, n);
+    }
+    decimal::put_byte(text, at, b)
 }
 
-// What comes before, and a number with its sign.
-fn put_signed(text: &mut [u8], at: usize, before: &[u8], ahead: u64, back: u64) -> usize
-    ensures { λ r. ⌜ Put (now (text .entry)) at (now (before .entry) ++ signed (subℕ ahead back)) (now (text .exit)) r ⌝ }
+fn taken(b: u8) -> usize
+    ensures { λ r. ⌜ (r ≡ takenBy b) × (r ≤ 1) ⌝ }
 {
-    let end = text::put_word(text, at, before);
-    if ahead < back {
-        return text::put_count(text, end, b"-", back - ahead);
+    number((b == b'#') | ((b == b'^') | (b == b'~'))) as usize
+}
+
+fn number_at(numbers: &[u64], k: usize) -> u64
+    ensures { λ r. ⌜ r ≡ getD (now (numbers .entry)) k 0 ⌝ }
+{
+    if k < numbers.len() {
+        return numbers[k];
     }
-    if back < ahead {
-        return text::put_count(text, end, b"+", ahead - back);
+    0
+}
+
+fn put_form(text: &mut [u8], at: usize, form: &[u8], numbers: &[u64]) -> usize
+    ensures { λ r. ⌜ Put (now (text .entry)) at (formText (now (form .entry)) (now (numbers .entry))) (now (text .exit)) r ⌝ }
+{
+    let mut end = at;
+    let mut k: usize = 0;
+    let mut i: usize = 0;
+    while i < form.len() {
+        let b = form[i];
+        end = put_part(text, end, b, number_at(numbers, k));
+        k += taken(b);
+        i += 1;
     }
-    text::put_word(text, end, b"0")
+    end
 }
 
 // ---- a stretch
 
-// Two words, each with a number after it.
-fn put_two(text: &mut [u8], at: usize, first: &[u8], a: u64, second: &[u8], b: u64) -> usize
-    ensures { λ r. ⌜ Put (now (text .entry)) at (now (first .entry) ++ digitsOf a ++ now (second .entry) ++ digitsOf b) (now (text .exit)) r ⌝ }
-{
-    let end = text::put_count(text, at, first, a);
-    text::put_count(text, end, second, b)
-}
-
-fn put_place(text: &mut [u8], at: usize, bank: u64, encoder: u64, first: u64, last: u64) -> usize
-    ensures { λ r. ⌜ Put (now (text .entry)) at (placeText bank encoder first last) (now (text .exit)) r ⌝ }
-{
-    let end = put_two(text, at, b"bank ", bank, b" encoder ", encoder);
-    put_two(text, end, b": records ", first, b" to ", last)
-}
-
-fn put_steps(text: &mut [u8], at: usize, ahead: u64, back: u64) -> usize
-    ensures { λ r. ⌜ Put (now (text .entry)) at (stepsText (subℕ ahead back)) (now (text .exit)) r ⌝ }
-{
-    let end = put_signed(text, at, b", ", ahead, back);
-    put_plural(text, end, b" step", size(ahead, back))
-}
-
-fn put_sums(text: &mut [u8], at: usize, number: u64, ahead: u64, back: u64, doubles: u64) -> usize
-    ensures { λ r. ⌜ Put (now (text .entry)) at (sumsText number (subℕ ahead back) doubles) (now (text .exit)) r ⌝ }
-{
-    let pins = put_counted(text, at, b", ", number, b" pin");
-    let steps = put_steps(text, pins, ahead, back);
-    put_counted(text, steps, b", ", doubles, b" double change")
-}
-
-fn put_travel(text: &mut [u8], at: usize, ahead: u64, back: u64, doubles: u64) -> usize
-    requires { ⌜ (ahead ≤ 9223372036854775808) × (back ≤ 9223372036854775808) × (doubles < 4096) ⌝ }
-    ensures { λ r. ⌜ Put (now (text .entry)) at (travelText (subℕ ahead back) doubles) (now (text .exit)) r ⌝ }
-{
-    let least = put_signed(text, at, b", travel ", ahead, back + 2 * doubles);
-    put_signed(text, least, b" to ", ahead + 2 * doubles, back)
-}
-
-fn put_open(text: &mut [u8], at: usize, size: u64, doubles: u64) -> usize
+// Still, or open.
+fn put_unturned(text: &mut [u8], at: usize, verdict: u64, size: u64, doubles: u64) -> usize
     requires { ⌜ doubles < 4096 ⌝ }
-    ensures { λ r. ⌜ Put (now (text .entry)) at (openText size doubles) (now (text .exit)) r ⌝ }
+    ensures { λ r. ⌜ Put (now (text .entry)) at (line (unturnedText verdict size doubles)) (now (text .exit)) r ⌝ }
 {
-    let end = put_counted(text, at, b": open, ", short(size, doubles), b" step");
-    text::put_word(text, end, b" short of a direction")
+    if verdict == 3 {
+        return text::put_word(text, at, b": still\n");
+    }
+    let n = short(size, doubles);
+    let numbers = [n, n];
+    put_form(text, at, b": open, # step~ short of a direction\n", &numbers)
 }
 
 fn put_verdict(text: &mut [u8], at: usize, verdict: u64, size: u64, doubles: u64) -> usize
     requires { ⌜ doubles < 4096 ⌝ }
-    ensures { λ r. ⌜ Put (now (text .entry)) at (numberedText verdict size doubles) (now (text .exit)) r ⌝ }
+    ensures { λ r. ⌜ Put (now (text .entry)) at (line (numberedText verdict size doubles)) (now (text .exit)) r ⌝ }
 {
     if verdict == 1 {
-        return text::put_word(text, at, b": forward");
+        return text::put_word(text, at, b": forward\n");
     }
     if verdict == 2 {
-        return text::put_word(text, at, b": backward");
+        return text::put_word(text, at, b": backward\n");
     }
-    if verdict == 3 {
-        return text::put_word(text, at, b": still");
-    }
-    put_open(text, at, size, doubles)
+    put_unturned(text, at, verdict, size, doubles)
 }
 
-fn put_found(text: &mut [u8], at: usize, ahead: u64, back: u64, doubles: u64, verdict: u64) -> usize
-    requires { ⌜ (ahead ≤ 9223372036854775808) × (back ≤ 9223372036854775808) × (doubles < 4096) ⌝ }
-    ensures { λ r. ⌜ Put (now (text .entry)) at (foundText (subℕ ahead back) doubles verdict) (now (text .exit)) r ⌝ }
+fn line_numbers(names: u64, span: u64, steps: u64, doubles: u64) -> [u64; 12]
+    requires { ⌜ doubles < 4096 ⌝ }
+    ensures { λ r. ⌜ r ≡ numbersOf names span steps doubles ⌝ }
 {
-    let end = put_travel(text, at, ahead, back, doubles);
-    put_verdict(text, end, verdict, size(ahead, back), doubles)
-}
-
-fn put_line(
-    text: &mut [u8],
-    at: usize,
-    names: u64,
-    span: u64,
-    ahead: u64,
-    back: u64,
-    doubles: u64,
-) -> usize
-    requires { ⌜ (ahead ≤ 9223372036854775808) × (back ≤ 9223372036854775808) × (doubles < 4096) ⌝ }
-    ensures { λ r. ⌜ Put (now (text .entry)) at (speltBy names span (subℕ ahead back) doubles) (now (text .exit)) r ⌝ }
-{
-    let placed = put_place(
-        text,
-        at,
+    let pins = span / 4294967296;
+    let twice = 2 * doubles;
+    [
         names % 256,
         names / 256 % 256,
         names / 4294967296,
         span % 4294967296,
-    );
-    let summed = put_sums(text, placed, span / 4294967296, ahead, back, doubles);
-    let found = put_found(text, summed, ahead, back, doubles, names / 65536 % 256);
-    decimal::put_byte(text, found, 10)
+        pins,
+        pins,
+        steps,
+        size(steps),
+        doubles,
+        doubles,
+        wrapping_sub_u64(steps, twice),
+        wrapping_add_u64(steps, twice),
+    ]
 }
 
 // A stretch's line from the four numbers of its entry.
@@ -190,7 +166,14 @@ fn put_stretch(text: &mut [u8], at: usize, names: u64, span: u64, steps: u64, do
     requires { ⌜ doubles < 4096 ⌝ }
     ensures { λ r. ⌜ Put (now (text .entry)) at (spelt names span steps doubles) (now (text .exit)) r ⌝ }
 {
-    put_line(text, at, names, span, ahead(steps), back(steps), doubles)
+    let numbers = line_numbers(names, span, steps, doubles);
+    let end = put_form(
+        text,
+        at,
+        b"bank # encoder #: records # to #, # pin~, ^ step~, # double change~, travel ^ to ^",
+        &numbers,
+    );
+    put_verdict(text, end, names / 65536 % 256, size(steps), doubles)
 }
 
 // The same of the entry at a place.

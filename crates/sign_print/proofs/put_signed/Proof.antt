@@ -1,6 +1,6 @@
 -- `sign_print::put_signed` meets its contract. Assumes nothing.
+use Rattle.sign_print.proofs.Words.{signed-put}
 use borrow.Author.Needs.{needs}
-use Rattle.sign_print.proofs.Words.{minus, plus, nought}
 use Rattle.sign_print.proofs.put_signed.Statement.{statement}
 use Rattle.sign_print.proofs.put_signed.Tie as tie
 
@@ -9,16 +9,7 @@ put-signed-spec =
     tie.close
     (tie.spec
     (λ c κs. search needs)
-    (λ c. search needs)
-    (λ c. search needs)
+    (λ c κs. search needs)
     (λ c κs. search needs)
     (λ c. search needs)
-    (λ c. search minus)
-    (λ c. search needs)
-    (λ c κs. search needs)
-    (λ c. search needs)
-    (λ c. search plus)
-    (λ c. search needs)
-    (λ c κs. search needs)
-    (λ c. search needs)
-    (λ c. search nought))
+    (λ c. search signed-put))

@@ -1,6 +1,6 @@
 -- `sign_print::put_verdict` meets its contract. Assumes nothing.
+use Rattle.sign_print.proofs.Words.{is-forward, is-backward, goes-nowhere}
 use borrow.Author.Needs.{needs}
-use Rattle.sign_print.proofs.Words.{is-forward, is-backward, is-still, is-open}
 use Rattle.sign_print.proofs.put_verdict.Statement.{statement}
 use Rattle.sign_print.proofs.put_verdict.Tie as tie
 
@@ -16,10 +16,6 @@ put-verdict-spec =
     (λ c κs. search needs)
     (λ c. search needs)
     (λ c. search is-backward)
-    (λ c. search needs)
     (λ c κs. search needs)
     (λ c. search needs)
-    (λ c. search is-still)
-    (λ c κs. search needs)
-    (λ c. search needs)
-    (λ c. search is-open))
+    (λ c. search goes-nowhere))
