@@ -8,7 +8,8 @@ use Rattle.fold.specs.Turn.{Turn, goes, refused, applies, leaves}
 use Rattle.i2c.specs.declared.Phase.{Phase}
 use Rattle.i2c.specs.declared.I2c.{I2c}
 use Rattle.i2c.specs.declared.Code.{Code}
-use Rattle.i2c.specs.I2c.{codeOf, code, stateOf, stopAlone, allowed, forbidden, recalled, gone, ran, goTurn}
+use Rattle.i2c.specs.I2c.{codeOf, code, stateOf, stopAlone, allowed, forbidden, recalled, ran, goTurn}
+use Rattle.i2c.specs.How.{gone}
 use Rattle.i2c.specs.Facts.{accepts, Sums, Recalled, Answered}
 use Rattle.i2c.proofs.Answers.{all-heard, not-there}
 
@@ -55,7 +56,6 @@ still c h = let heard = not (eqb (ran c .failure) 1) in ap (λ (b : Bool). heard
 
 pub recalls : Recalled
 recalls = record {
-  starts = refl;
   send = λ c b r. still c (after-send (code c .receive) (code c .byte) (code c .start) (code c .stop) (code c .ack) r);
   stop = λ c s. still c (after-stop (code c .receive) (code c .byte) (code c .start) (code c .stop) (code c .ack) s);
   received = λ c b r s f. ap (λ (n : ℕ). gone c n .acknowledged) f ∙ after-byte (code c .receive) (code c .byte) (code c .start) (code c .stop) (code c .ack) b r s;
@@ -78,7 +78,6 @@ has-not false bars c d e = refl
 
 pub answered : Answered
 answered = record {
-  first = refl;
   used-up = λ c e. ap (λ (d : I2c). d .answer) (has-run (allowed (c .phase) (code c)) (forbidden (c .phase) (c .acknowledged) (code c)) c (ran c) e);
   left = λ c e. has-not (allowed (c .phase) (code c)) (forbidden (c .phase) (c .acknowledged) (code c)) c (ran c) e;
   plain = λ c e. ap (gone c) (all-heard (c .answer) (code c) e);

@@ -9,7 +9,7 @@ use Rattle.fold.specs.Turn.{applies, refused, leaves}
 use Rattle.i2c.specs.declared.Phase.{Phase}
 use Rattle.i2c.specs.declared.Phase.the-variants.{Idle, TxIdle, RxIdle}
 use Rattle.i2c.specs.declared.I2c.{I2c}
-use Rattle.i2c.specs.I2c.{codeOf, code, stateOf, stopAlone, allowed, ended, recalled, ran, goTurn, fresh}
+use Rattle.i2c.specs.I2c.{codeOf, code, stateOf, stopAlone, allowed, ended, recalled, ran, goTurn}
 
 -- how many of 0 .. n - 1 pass a test
 abbrev pub count : (ℕ → Bool) → ℕ → ℕ
@@ -30,8 +30,7 @@ Sums = (n : ℕ) (a : Bool) → (acceptedFrom n a Idle + acceptedFrom n a TxIdle
     × (acceptedFrom n a Idle ≡ 7) × (acceptedFrom n a TxIdle ≡ 15) × (acceptedFrom n a RxIdle ≡ cond a 10 14)
 
 pub record Recalled : Type 0 where
-  -- "starts false and is false after any send or any STOP"; after any other byte it is the ACK, if the slave was there to send it
-  pub starts : fresh .acknowledged ≡ false
+  -- "is false after any send or any STOP"; after any other byte it is the ACK, if the slave was there to send it
   pub send : (c : I2c) → code c .byte ≡ true → code c .receive ≡ false → ran c .acknowledged ≡ false
   pub stop : (c : I2c) → code c .stop ≡ true → ran c .acknowledged ≡ false
   pub received : (c : I2c) → code c .byte ≡ true → code c .receive ≡ true → code c .stop ≡ false → ran c .failure ≡ 0 → ran c .acknowledged ≡ code c .ack
@@ -42,8 +41,7 @@ pub record Recalled : Type 0 where
   pub eleven-first : (c : I2c) → allowed (c .phase) (code c) ≡ false → goTurn c ≡ refused 11
 
 pub record Answered : Type 0 where
-  -- "Without it all is acknowledged": at first, and after an accepted GO again. A refused GO leaves it, and all else
-  pub first : fresh .answer ≡ 3
+  -- "It is used up by that GO": "Without it all is acknowledged". A refused GO leaves it, and all else
   pub used-up : (c : I2c) → applies (goTurn c) ≡ true → leaves c (goTurn c) .answer ≡ 3
   pub left : (c : I2c) → applies (goTurn c) ≡ false → leaves c (goTurn c) ≡ c
   -- and so a GO does what paper 01 and h) say

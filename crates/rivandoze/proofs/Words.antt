@@ -23,9 +23,9 @@ use Rattle.sign.specs.Sign.{Told as Signs, signOf, signedOf}
 use Rattle.sign.proofs.Telling.{count-small}
 use Rattle.stream.specs.declared.Told.{Told}
 use Rattle.writer.specs.declared.Written.{Written}
-use Rattle.rivandoze.specs.Word.{refusalIn, Word, WordSettled}
+use Rattle.rivandoze.specs.Word.{Word}
 
-pub a-word : (k n w : ℕ) → refusalIn w ≡ k → w / 256 ≡ n → Word k n w
+pub a-word : (k n w : ℕ) → w % 256 ≡ k → w / 256 ≡ n → Word k n w
 a-word k n w a b = record { refusal = a; above = b }
 
 -- ---- how large the numbers are
@@ -67,5 +67,5 @@ module _ (w : ℕ) where
   pub write-word : (d e : Written) → d ≡ e → Word (d .refused) (d .number % 2 ^ 56) w → Word (e .refused) (e .number % 2 ^ 56) w
   write-word d e q x = rw q at x
 
-pub word-settled : WordSettled
+pub word-settled : (k n v w : ℕ) → Word k n v → Word k n w → v ≡ w
 word-settled k n v w a b = omega (arith, a .refusal, a .above, b .refusal, b .above)
