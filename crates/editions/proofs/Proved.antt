@@ -30,7 +30,7 @@ use Rattle.banks.proofs.Whole.{Both, holds-first}
 use Rattle.replay.specs.Replay.{played, playOf, replayFrom, replayOf}
 use Rattle.walk.specs.Turn.{decodedTurn, turnOf}
 use Rattle.walk.proofs.Replaying.{by-turn, ticking, banking, both-kept, lift-applies}
-use Rattle.editions.specs.Facts.{AsTwo, InQuadrature, ModeSums, NeverTen, PortSums}
+use Rattle.editions.specs.Facts.{Editions}
 use Rattle.editions.proofs.Four.{record-no-ten}
 use Rattle.editions.proofs.Three.{as-two, Moded, moded-first, moded-next}
 
@@ -80,7 +80,8 @@ same-play rs room = by (leb (8 * readsIn rs) room)
     by true h = fold.alike (turnOf (editionOf 3)) (turnOf (editionOf 2)) same-turn fresh rs h
     by false h = refl
 
-pub as-edition-two : AsTwo
+as-edition-two : (log other : List ℕ) (a b n room : ℕ) → trailerOf log ≡ Found a n 3 → trailerOf other ≡ Found b n 2
+    → recordsOf other ≡ recordsOf log → replayOf log room .course ≡ going → replayOf other room ≡ replayOf log room
 as-edition-two log other a b n room three two same through =
     let is = replay-is log a n 3 room three in
     replay-is other b n 2 room two
@@ -97,32 +98,24 @@ quadrature routed cnfg m e r = rw (e, r, m) (and-true routed)
     and-true true = refl
     and-true false = refl
 
-pub in-quadrature : InQuadrature
-in-quadrature rs k i h e r =
-    let keep = both-kept Moded (editionOf 3) moded-next in
-    let all = fold.keeps (turnOf (editionOf 3)) (Both Moded) keep fresh rs (holds-first Moded moded-first) in
-    let b = bankAt k (played (editionOf 3) rs .state) in
-    quadrature (encoderRouted false (b .select) i) (encoderAt i b .cnfg) (all .each k h i) e r
+-- ---- all
 
--- ---- edition 4
-
-pub never-ten : NeverTen
-never-ten rs h = fold.stopped-by (turnOf (editionOf 4)) (λ k. k ≡ 10 → ⊥) record-no-ten fresh rs 10 h refl
-
--- ---- the sums
-
-pub port-sums : PortSums
+pub editions : Editions
 unfolding runOf resumed step turnOf bank.turnOf leOf decodeOf namedOf writeOf pinsOf fieldOf some mapFrom statOf bank.fresh
-port-sums = record {
+editions = record {
+  as-two = as-edition-two;
+  in-quadrature = λ rs k i h e r.
+      let keep = both-kept Moded (editionOf 3) moded-next in
+      let all = fold.keeps (turnOf (editionOf 3)) (Both Moded) keep fresh rs (holds-first Moded moded-first) in
+      let b = bankAt k (played (editionOf 3) rs .state) in
+      quadrature (encoderRouted false (b .select) i) (encoderAt i b .cnfg) (all .each k h i) e r;
+  goes-in-two = refl;
+  stops-in-three = refl;
+  nine-first = refl;
+  never-ten = λ rs h. fold.stopped-by (turnOf (editionOf 4)) (λ k. k ≡ 10 → ⊥) record-no-ten fresh rs 10 h refl;
   encoder-routed = refl;
   not-by-bit-4 = refl;
   pwm-routed = refl;
   i2c-routed = refl;
   reserved = refl;
-  half-a-pair = refl;
-  taken = refl;
 }
-
-pub mode-sums : ModeSums
-unfolding runOf resumed step turnOf bank.turnOf leOf decodeOf namedOf writeOf fieldOf some mapFrom statOf bank.fresh
-mode-sums = record { goes-in-two = refl; stops-in-three = refl; nine-first = refl }

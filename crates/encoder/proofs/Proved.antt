@@ -10,13 +10,11 @@ use borrow.Author.Tests.{eq-eqb, ne-eqb, eqb-true, eqb-false}
 use lib.IntN.{ℤ, pos, sucℤ, _+ℤ_, +ℤ-sucℤ, +ℤ-idr}
 use Rattle.encoder.specs.declared.Encoder.{Encoder}
 use Rattle.encoder.specs.Encoder.{rst, onPins, onCnfg}
-use Rattle.encoder.specs.Facts.{FirstPins, Held, SameBorder, played}
+use Rattle.encoder.specs.Facts.{Encoders, played}
 use Rattle.encoder.specs.Count.{pattern, wrap}
 use Rattle.encoder.proofs.Wrap.{pattern-lt, pattern-suc, pattern-wrap}
+use Rattle.encoder.proofs.Stat.{passesUnsigned, passesSigned}
 use Rattle.encoder.proofs.Counting.{still, pins-cnfg}
-
-pub first-pins : FirstPins
-first-pins v e unseen = still v e (ap (λ (b : Bool). not b || rst (e .cnfg)) unseen)
 
 -- a count of 0 stays while RST is 1
 reset : (vs : List ℕ) (e : Encoder) → rst (e .cnfg) ≡ true → e .count ≡ pos 0 → (played vs e .count ≡ pos 0) × (played vs e .stat ≡ e .stat)
@@ -26,8 +24,13 @@ reset (v ∷ vs) e one zero =
     let t = reset vs (onPins v e) (ap rst (pins-cnfg v e) ∙ one) (s .0 ∙ zero) in
     (t .0, t .1 ∙ s .1)
 
-pub held : Held
-held v e one vs = reset vs (onCnfg v e) one (ap (λ (b : Bool). cond b (pos 0) (e .count)) one)
+pub encoders : Encoders
+encoders = record {
+  first-pins = λ v e unseen. still v e (ap (λ (b : Bool). not b || rst (e .cnfg)) unseen);
+  held = λ v e one vs. reset vs (onCnfg v e) one (ap (λ (b : Bool). cond b (pos 0) (e .count)) one);
+}
+
+-- ---- a step up and the step back down from there pass the same border or none
 
 -- one up from the last pattern is 0, and from one below the middle the middle
 border : (p q : ℕ) → p < 4294967296 → q ≡ (p + 1) % 4294967296 → (eqb q 0 ≡ eqb p 4294967295) × (eqb q 2147483648 ≡ eqb p 2147483647)
@@ -40,6 +43,7 @@ border p q h e = (same q 0 p 4294967295 (λ x. omega arith) (λ x. omega arith),
         by true x = eq-eqb a b (g (eqb-true c d x))
         by false x = ne-eqb a b (λ y. eqb-false c d x (f y))
 
-pub same-border : SameBorder
+same-border : (n : ℤ) → (passesUnsigned true (pattern (wrap (n +ℤ pos 1))) ≡ passesUnsigned false (pattern n))
+    × (passesSigned true (pattern (wrap (n +ℤ pos 1))) ≡ passesSigned false (pattern n))
 same-border n =
     border (pattern n) _ (pattern-lt n) (pattern-wrap (n +ℤ pos 1) ∙ ap pattern (+ℤ-sucℤ n (pos 0) ∙ ap sucℤ (+ℤ-idr n)) ∙ pattern-suc n)

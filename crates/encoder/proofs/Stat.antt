@@ -1,13 +1,13 @@
 -- STAT as a number: a rule on its six bits is a test at each of the 64 numbers that they make, which antt computes.
 -- Assumes nothing.
 use mathlib.Core.Path.{_≡_, _∙_}
-use mathlib.Core.Bool.{Bool, true, false, _&&_, _||_}
+use mathlib.Core.Bool.{Bool, true, false, cond, _&&_, _||_}
 use Prim.Native.Nat.{ℕ, _+_, _*_, _/_, _%_}
 use native.Mathlib.Omega.{arith}
 use lib.Dec.{T, eqb, eqb→eq}
 use lib.ListN.{replicate}
 use Rattle.bits.specs.Bits.{bit, num}
-use Rattle.encoder.specs.Encoder.{statOf, passesUnsigned, passesSigned, marked}
+use Rattle.encoder.specs.Encoder.{statOf, marked}
 use Rattle.laws.proofs.Table.{every, at}
 
 pub low : (m q r : ℕ) → m ≡ 2 * q + r → r % 2 ≡ m % 2
@@ -35,7 +35,14 @@ by-bits f rule t stat =
     eqb→eq (f (stat % 64)) (on rule (stat % 64)) (at (λ n _. eqb (f n) (on rule n)) (replicate 64 0) t (stat % 64) (omega arith))
     ∙ six rule stat
 
--- a step from the bit pattern x
+-- whether a step back or forward from the bit pattern x passes the unsigned or the signed border
+abbrev pub passesUnsigned : Bool → ℕ → Bool
+passesUnsigned back x = eqb x (cond back 0 4294967295)
+
+abbrev pub passesSigned : Bool → ℕ → Bool
+passesSigned back x = eqb x (cond back 2147483648 2147483647)
+
+-- a step from there
 abbrev marking : Bool → ℕ → Bool → Bool → Bool → Bool → Bool → Bool → ℕ
 marking back x dir err uovr sovr uoerr soerr =
     statOf back err (uovr || passesUnsigned back x) (sovr || passesSigned back x) (uoerr || (uovr && passesUnsigned back x)) (soerr || (sovr && passesSigned back x))

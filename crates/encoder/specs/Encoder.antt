@@ -39,8 +39,7 @@ onCnfg v e = let stat = cleared (rises (bit 3 (e .cnfg)) (bit 3 v)) (rises (bit 
 
 -- a write to SELECT, with whether the encoder was routed before it and is now: "being newly routed, makes the pins unseen"
 abbrev pub onSelect : Bool → Bool → Encoder → Encoder
-onSelect was now e =
-    record { count = e .count; cnfg = e .cnfg; stat = e .stat; pins = e .pins; seen = e .seen && not (rises was now) }
+onSelect was now e = record { count = e .count; cnfg = e .cnfg; stat = e .stat; pins = e .pins; seen = e .seen && not (rises was now) }
 
 -- ---- pins that are stored, with the count and STAT that they leave
 
@@ -52,18 +51,11 @@ kept v e = stored v (e .count) (e .stat) e
 
 -- ---- one counted step, forward (false) or back (true)
 
--- whether it passes the unsigned or the signed border, b being the bit pattern from which it goes: "UOVR (step from 4,294,967,295 up
--- to 0)", "also set by a step from 0 down to 4,294,967,295"; "SOVR (step from 2,147,483,647 up to -2,147,483,648)", or "from
--- -2,147,483,648 down to 2,147,483,647"
-abbrev pub passesUnsigned : Bool → ℕ → Bool
-passesUnsigned back b = eqb b (cond back 0 4294967295)
-
-abbrev pub passesSigned : Bool → ℕ → Bool
-passesSigned back b = eqb b (cond back 2147483648 2147483647)
-
--- "DIR (1 if the last counted step was backward)"; "UOERR, SOERR (the same again with the first flag still set)"
+-- from the bit pattern b: "DIR (1 if the last counted step was backward)"; "UOVR (step from 4,294,967,295 up to 0)", "also set by a step from 0
+-- down to 4,294,967,295"; "SOVR (step from 2,147,483,647 up to -2,147,483,648)", or "from -2,147,483,648 down to 2,147,483,647"; "UOERR, SOERR (the
+-- same again with the first flag still set)"
 abbrev pub marked : Bool → ℕ → ℕ → ℕ
-marked back b s = let uovr = passesUnsigned back b in let sovr = passesSigned back b in
+marked back b s = let uovr = eqb b (cond back 0 4294967295) in let sovr = eqb b (cond back 2147483648 2147483647) in
     statOf back (bit 1 s) (bit 2 s || uovr) (bit 3 s || sovr) (bit 4 s || (bit 2 s && uovr)) (bit 5 s || (bit 3 s && sovr))
 
 -- "One place forward is +1, one back is -1". "The count is a 32-bit signed number that wraps on purpose"

@@ -1,38 +1,34 @@
 -- The facts of specs/Facts.antt.
 -- Assumes nothing.
-use mathlib.Core.Path.{_≡_, refl, ap, _∙_}
-use mathlib.Core.Bool.{Bool, true, false, not, cond, _&&_, and-false, true≢false, false≢true}
+use mathlib.Core.Path.{_≡_, refl, sym, ap, _∙_}
+use mathlib.Core.Bool.{Bool, true, false, not, cond, _&&_, and-false}
 use Prim.Native.Nat.{ℕ}
+use native.Mathlib.Omega.{arith}
 use lib.Dec.{eqb}
-use Rattle.fold.specs.Turn.{Turn, goes, refused, applies, leaves}
+use Rattle.fold.specs.Turn.{Turn, goes, refused}
 use Rattle.i2c.specs.declared.Phase.{Phase}
 use Rattle.i2c.specs.declared.I2c.{I2c}
 use Rattle.i2c.specs.declared.Code.{Code}
-use Rattle.i2c.specs.I2c.{codeOf, code, stateOf, stopAlone, allowed, forbidden, recalled, gone, ran, goTurn}
+use Rattle.i2c.specs.I2c.{codeOf, code, stateOf, stopAlone, allowed, forbidden, recalled, ran, goTurn}
+use Rattle.i2c.specs.How.{gone}
 use Rattle.i2c.specs.Facts.{accepts, Sums, Recalled, Answered}
 use Rattle.i2c.proofs.Answers.{all-heard, not-there}
 
 eleven-first : (c : I2c) → allowed (c .phase) (code c) ≡ false → goTurn c ≡ refused 11
 eleven-first c h = rw h
 
-abbrev after : Bool → Bool → I2c → Turn I2c ℕ
-after may bars c = cond may (cond bars (refused 16) (goes c)) (refused 11)
-
--- what is forbidden falls away
-less : (may bars : Bool) (c d : I2c) → applies (after may bars c) ≡ applies (after may false d) && not bars
-less true true c d = refl
-less true false c d = refl
-less false bars c d = refl
-
-fall-away : (n : ℕ) (p : Phase) (addr cntl : ℕ)
-    → accepts n true p addr cntl ≡ accepts n false p addr cntl && not (eqb (stateOf p) 2 && stopAlone (codeOf addr cntl))
+fall-away : (p : Phase) (r c : ℕ) → accepts true p r c ≡ accepts false p r c && not (eqb (stateOf p) 2 && stopAlone (codeOf r c))
 unfolding forbidden
-fall-away n p addr cntl = less (allowed p (codeOf addr cntl)) (eqb (stateOf p) 2 && stopAlone (codeOf addr cntl)) _ _
+fall-away p r c = less (allowed p (codeOf r c)) (not (eqb (stateOf p) 2 && stopAlone (codeOf r c)))
+  where
+    less : (may bars : Bool) → (may && bars) ≡ ((may && true) && bars)
+    less true bars = refl
+    less false bars = refl
 
 pub sums : Sums
 unfolding allowed forbidden
-sums n true = (refl, refl, refl, refl)
-sums n false = (refl, refl, refl, refl)
+sums true = (refl, refl, refl, refl)
+sums false = (refl, refl, refl, refl)
 
 abbrev made : Bool → Bool → Bool → Bool → Bool → Code
 made receive byte start stop ack = record { receive = receive; byte = byte; start = start; stop = stop; ack = ack }
@@ -55,7 +51,6 @@ still c h = let heard = not (eqb (ran c .failure) 1) in ap (λ (b : Bool). heard
 
 pub recalls : Recalled
 recalls = record {
-  starts = refl;
   send = λ c b r. still c (after-send (code c .receive) (code c .byte) (code c .start) (code c .stop) (code c .ack) r);
   stop = λ c s. still c (after-stop (code c .receive) (code c .byte) (code c .start) (code c .stop) (code c .ack) s);
   received = λ c b r s f. ap (λ (n : ℕ). gone c n .acknowledged) f ∙ after-byte (code c .receive) (code c .byte) (code c .start) (code c .stop) (code c .ack) b r s;
@@ -65,22 +60,18 @@ recalls = record {
 
 -- ---- the slave's answer
 
--- an accepted GO has run, and a refused one has done nothing
-has-run : (may bars : Bool) (c d : I2c) → applies (after may bars d) ≡ true → leaves c (after may bars d) ≡ d
-has-run true true c d e = absurd (false≢true e)
-has-run true false c d e = refl
-has-run false bars c d e = absurd (false≢true e)
+refusal-goes : (k : ℕ) (d : I2c) → _≡_ {A = Turn I2c ℕ} (refused k) (goes d) → ⊥
+refusal-goes k d h = let z : _≡_ {A = ℕ} 0 1 = cc in omega arith
 
-has-not : (may bars : Bool) (c d : I2c) → applies (after may bars d) ≡ false → leaves c (after may bars d) ≡ c
-has-not true true c d e = refl
-has-not true false c d e = absurd (true≢false e)
-has-not false bars c d e = refl
+-- an accepted GO has run
+has-run : (may bars : Bool) (d e : I2c) → _≡_ {A = Turn I2c ℕ} (cond may (cond bars (refused 16) (goes d)) (refused 11)) (goes e) → d ≡ e
+has-run true true d e h = absurd (refusal-goes 16 e h)
+has-run true false d e h = cc
+has-run false bars d e h = absurd (refusal-goes 11 e h)
 
 pub answered : Answered
 answered = record {
-  first = refl;
-  used-up = λ c e. ap (λ (d : I2c). d .answer) (has-run (allowed (c .phase) (code c)) (forbidden (c .phase) (c .acknowledged) (code c)) c (ran c) e);
-  left = λ c e. has-not (allowed (c .phase) (code c)) (forbidden (c .phase) (c .acknowledged) (code c)) c (ran c) e;
+  used-up = λ c d e. ap (λ (x : I2c). x .answer) (sym (has-run (allowed (c .phase) (code c)) (forbidden (c .phase) (c .acknowledged) (code c)) (ran c) d e));
   plain = λ c e. ap (gone c) (all-heard (c .answer) (code c) e);
   address = λ c s b.
       let f = not-there (c .answer) (code c) s b in

@@ -5,47 +5,43 @@ use mathlib.Core.Path.{_≡_}
 use mathlib.Core.Bool.{Bool, true, false, not, cond, _&&_}
 use lib.Dec.{eqb}
 use Rattle.bits.specs.Bits.{bit, num}
-use Rattle.fold.specs.Turn.{applies, refused, leaves}
+use Rattle.fold.specs.Turn.{goes, refused}
 use Rattle.i2c.specs.declared.Phase.{Phase}
 use Rattle.i2c.specs.declared.Phase.the-variants.{Idle, TxIdle, RxIdle}
 use Rattle.i2c.specs.declared.I2c.{I2c}
-use Rattle.i2c.specs.I2c.{codeOf, code, stateOf, stopAlone, allowed, ended, recalled, ran, goTurn, fresh}
+use Rattle.i2c.specs.I2c.{codeOf, code, stateOf, stopAlone, allowed, forbidden, ended, recalled, ran, goTurn}
 
 -- how many of 0 .. n - 1 pass a test
 abbrev pub count : (ℕ → Bool) → ℕ → ℕ
 count f zero = 0
 count f (suc n) = count f n + num (f n)
 
--- whether a GO is accepted, where `a` is recalled; `n`, how the slave will answer, has no part in it
-abbrev pub accepts : ℕ → Bool → Phase → ℕ → ℕ → Bool
-accepts n a p addr cntl = applies (goTurn (record { addr = addr; cntl = cntl; phase = p; acknowledged = a; answer = n; failure = 0 }))
+-- whether a GO is refused by neither 11 nor 16, where `a` is recalled
+abbrev pub accepts : Bool → Phase → ℕ → ℕ → Bool
+accepts a p addr cntl = allowed p (codeOf addr cntl) && not (forbidden p a (codeOf addr cntl))
 
 -- of how many of a state's 32 combinations, R/S 0 or 1 and CNTL 0 to 15
-abbrev pub acceptedFrom : ℕ → Bool → Phase → ℕ
-acceptedFrom n a p = count (accepts n a p 0) 16 + count (accepts n a p 1) 16
+abbrev pub acceptedFrom : Bool → Phase → ℕ
+acceptedFrom a p = count (accepts a p 0) 16 + count (accepts a p 1) 16
 
 -- "of 96 state, R/S and CNTL combinations, 36 are allowed: 7 idle, 15 TX idle, 14 RX idle": now "a count per recalled fact"
 abbrev pub Sums : Type 0
-Sums = (n : ℕ) (a : Bool) → (acceptedFrom n a Idle + acceptedFrom n a TxIdle + acceptedFrom n a RxIdle ≡ cond a 32 36)
-    × (acceptedFrom n a Idle ≡ 7) × (acceptedFrom n a TxIdle ≡ 15) × (acceptedFrom n a RxIdle ≡ cond a 10 14)
+Sums = (a : Bool) → (acceptedFrom a Idle + acceptedFrom a TxIdle + acceptedFrom a RxIdle ≡ cond a 32 36)
+    × (acceptedFrom a Idle ≡ 7) × (acceptedFrom a TxIdle ≡ 15) × (acceptedFrom a RxIdle ≡ cond a 10 14)
 
 pub record Recalled : Type 0 where
-  -- "starts false and is false after any send or any STOP"; after any other byte it is the ACK, if the slave was there to send it
-  pub starts : fresh .acknowledged ≡ false
+  -- "is false after any send or any STOP"; after any other byte it is the ACK, if the slave was there to send it
   pub send : (c : I2c) → code c .byte ≡ true → code c .receive ≡ false → ran c .acknowledged ≡ false
   pub stop : (c : I2c) → code c .stop ≡ true → ran c .acknowledged ≡ false
   pub received : (c : I2c) → code c .byte ≡ true → code c .receive ≡ true → code c .stop ≡ false → ran c .failure ≡ 0 → ran c .acknowledged ≡ code c .ack
   -- "when true the four STOP-alone codes of RX idle fall away", and no other
-  pub fall-away : (n : ℕ) (p : Phase) (addr cntl : ℕ)
-      → accepts n true p addr cntl ≡ accepts n false p addr cntl && not (eqb (stateOf p) 2 && stopAlone (codeOf addr cntl))
+  pub fall-away : (p : Phase) (r c : ℕ) → accepts true p r c ≡ accepts false p r c && not (eqb (stateOf p) 2 && stopAlone (codeOf r c))
   -- "tested after 11"
   pub eleven-first : (c : I2c) → allowed (c .phase) (code c) ≡ false → goTurn c ≡ refused 11
 
 pub record Answered : Type 0 where
-  -- "Without it all is acknowledged": at first, and after an accepted GO again. A refused GO leaves it, and all else
-  pub first : fresh .answer ≡ 3
-  pub used-up : (c : I2c) → applies (goTurn c) ≡ true → leaves c (goTurn c) .answer ≡ 3
-  pub left : (c : I2c) → applies (goTurn c) ≡ false → leaves c (goTurn c) ≡ c
+  -- "used up by that GO", one that is accepted: "Without it all is acknowledged"
+  pub used-up : (c d : I2c) → goTurn c ≡ goes d → d .answer ≡ 3
   -- and so a GO does what paper 01 and h) say
   pub plain : (c : I2c) → c .answer ≡ 3 → ran c
       ≡ record { addr = c .addr; cntl = c .cntl; phase = ended false (code c); acknowledged = recalled false (code c); answer = 3; failure = 0 }

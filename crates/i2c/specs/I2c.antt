@@ -64,16 +64,13 @@ onCntl v c = record { addr = c .addr; cntl = v; phase = c .phase; acknowledged =
 abbrev pub onAnswer : ℕ → I2c → I2c
 onAnswer v c = record { addr = c .addr; cntl = c .cntl; phase = c .phase; acknowledged = c .acknowledged; answer = v; failure = c .failure }
 
--- the code that a GO would run; the sequencer once it has run, with its failure; the answer "is used up by that GO"
+-- the code that a GO would run; the sequencer once it has run; the answer "is used up by that GO"
 abbrev pub code : I2c → Code
 code c = codeOf (c .addr) (c .cntl)
 
-abbrev pub gone : I2c → ℕ → I2c
-gone c failure = let nobody = eqb failure 1 in
-    record { addr = c .addr; cntl = c .cntl; phase = ended nobody (code c); acknowledged = recalled nobody (code c); answer = 3; failure = failure }
-
 abbrev pub ran : I2c → I2c
-ran c = gone c (failed (c .answer) (code c))
+ran c = let failure = failed (c .answer) (code c) in let nobody = eqb failure 1 in
+    record { addr = c .addr; cntl = c .cntl; phase = ended nobody (code c); acknowledged = recalled nobody (code c); answer = 3; failure = failure }
 
 -- 11 "GO with a control code not allowed". 16 is "tested after 11"
 abbrev pub goTurn : I2c → Turn I2c ℕ

@@ -13,7 +13,8 @@ use Rattle.fold.specs.Run.{Course, going, stopped, tally}
 use Rattle.wire.specs.Bytes.{asks, readsIn}
 use Rattle.wire.specs.Trailer.{recordsOf}
 use Rattle.wire.proofs.Laws.{few-records}
-use Rattle.judge.specs.Judge.{plain, opposite, courseOf, Agree, Judged, refused, other-length, same, negated, both, different}
+use Rattle.judge.specs.Judge.{plain, opposite, courseOf, Judged, refused, other-length, same, negated, both, different}
+use Rattle.judge.specs.How.{Agree}
 use Rattle.judge.proofs.Numbers.{fewer}
 use Rattle.judge.proofs.Placed.{plain-long, opposite-long}
 

@@ -22,8 +22,8 @@ use Rattle.wire.specs.declared.Trailer.{Trailer}
 use Rattle.wire.proofs.Laws.{first-byte, ends}
 use Rattle.judge.specs.declared.Verdict.{Verdict}
 use Rattle.judge.specs.declared.Verdict.the-variants.{Negated, Both}
-use Rattle.judge.specs.Judge.{neg, ofCntr, plain, opposite, Agree, same, negated, both, different, Answer}
-use Rattle.judge.specs.How.{Ready, Plainly, all, until}
+use Rattle.judge.specs.Judge.{neg, ofCntr, plain, opposite, same, negated, both, different, Answer}
+use Rattle.judge.specs.How.{Agree, Ready, Plainly, all, until}
 use Rattle.judge.proofs.Numbers.{in-slice, in-bytes, le-take, one-more}
 use Rattle.judge.proofs.Placed.{turned, plain-long, opposite-long, over}
 

@@ -11,7 +11,7 @@ use mir.Val.{Fits}
 use Rattle.fold.specs.Output.{bytesOf}
 use Rattle.wire.specs.Bytes.{byte, leOf, leBytes}
 use Rattle.wire.proofs.Numbers.{le-bytes, bytes-le, le-behind}
-use Rattle.judge.specs.Judge.{Agree}
+use Rattle.judge.specs.How.{Agree}
 
 abbrev pub Bytes : List ℕ → Type 0
 Bytes s = (i : ℕ) → getD s i 0 < 256

@@ -10,8 +10,7 @@ use mir.Syntax.{w8}
 use mir.Val.{Fits}
 use Rattle.wire.specs.Bytes.{leOf}
 use Rattle.judge.specs.declared.Verdict.the-variants.{Same, Different}
-use Rattle.judge.specs.Judge.{Agree}
-use Rattle.judge.specs.How.{Plainly, all, until}
+use Rattle.judge.specs.How.{Agree, Plainly, all, until}
 use Rattle.judge.proofs.Numbers.{in-slice, one-more, the-next}
 
 module _ (ts out : List ℕ) (i : ℕ) (agree : Agree i ts out) where

@@ -3,13 +3,14 @@
 use mathlib.Core.Path.{_≡_, refl, sym, ap, _∙_}
 use mathlib.Core.Logic.{_⊎_, inl, inr}
 use mathlib.Core.List.{List, _++_}
-use Prim.Native.Nat.{ℕ}
+use Prim.Native.Nat.{ℕ, _-_, _≤_}
 use native.Mathlib.Omega.{arith}
 use Rattle.edition.specs.declared.Edition.{Edition}
 use Rattle.fold.specs.Run.{Run, going, stopped, runOf}
 use Rattle.fold.specs.Turn.{Turn}
 use Rattle.fold.specs.Output.{bytesOf}
-use Rattle.wire.specs.Bytes.{leBytes}
+use lib.ListN.{length}
+use Rattle.wire.specs.Bytes.{leOf, leBytes}
 use Rattle.wire.specs.Trailer.{trailerOf, recordsOf, editionIn}
 use Rattle.wire.specs.declared.Trailer.{Trailer}
 use Rattle.wire.specs.declared.Trailer.the-variants.{Found, Refused}
@@ -22,9 +23,9 @@ use Rattle.walk.proofs.Numbers.{Number, run-number}
 use Rattle.replay.proofs.Notes.{same-records, same-edition}
 use Rattle.replay.proofs.Proved as replayed
 use Rattle.judge.specs.Judge.{negating, plain, opposite, courseOf, Judged, same, negated, both}
-use Rattle.judge.specs.Facts.{Shown, NotesIgnored}
+use Rattle.judge.specs.Facts.{Shown}
 use Rattle.judge.proofs.Answers as answers
-use Rattle.judge.proofs.Still.{still-only, still-same, negated-twice}
+use Rattle.judge.proofs.Still.{still-only, still-same}
 
 not-six : Number 6 → ⊥
 not-six (inl h) = omega arith
@@ -52,20 +53,29 @@ shown log ts =
       no-six = never-six log;
       when-both = λ j. let b = answers.when-both log ts (0, 3, 0) refl j in (b .1, still-only log (b .0) (sym (b .1) ∙ b .2));
       both-when = λ c p s. both c p (p ∙ still-same log c s);
-      itself = λ c. itself c (answers.alike (plain log) (opposite log));
-      its-negation = λ c. its-negation c (answers.alike (opposite log) (plain log));
-      twice = negated-twice log;
     }
-  where
-    itself : courseOf log ≡ going → Dec (plain log ≡ opposite log) → Judged log (plain log) (0, 1, 0) ⊎ Judged log (plain log) (0, 3, 0)
-    itself c (yes e) = inr (both c refl e)
-    itself c (no d) = inl (same c refl d)
 
-    its-negation : courseOf log ≡ going → Dec (opposite log ≡ plain log) → Judged log (opposite log) (0, 2, 0) ⊎ Judged log (opposite log) (0, 3, 0)
-    its-negation c (yes e) = inr (both c e refl)
-    its-negation c (no d) = inl (negated c d refl)
+-- ---- the readings' own bytes, their negation; the negation of that is `negated-twice`
 
-pub notes-ignored : NotesIgnored
+module _ (log : List ℕ) (c : courseOf log ≡ going) where
+  itself : Judged log (plain log) (0, 1, 0) ⊎ Judged log (plain log) (0, 3, 0)
+  itself = by (answers.alike (plain log) (opposite log))
+    where
+      by : Dec (plain log ≡ opposite log) → Judged log (plain log) (0, 1, 0) ⊎ Judged log (plain log) (0, 3, 0)
+      by (yes e) = inr (both c refl e)
+      by (no d) = inl (same c refl d)
+
+  its-negation : Judged log (opposite log) (0, 2, 0) ⊎ Judged log (opposite log) (0, 3, 0)
+  its-negation = by (answers.alike (opposite log) (plain log))
+    where
+      by : Dec (opposite log ≡ plain log) → Judged log (opposite log) (0, 2, 0) ⊎ Judged log (opposite log) (0, 3, 0)
+      by (yes e) = inr (both c e refl)
+      by (no d) = inl (negated c d refl)
+
+-- ---- other notes change no answer: the tail is the trailer with at least the D bytes before it
+
+notes-ignored : (notes other tail ts : List ℕ) (a : ℕ × ℕ × ℕ) → length (notes ++ tail) ≤ 32768 → length (other ++ tail) ≤ 32768
+    → 8 ≤ length tail → leOf 4 tail (length tail - 8) ≤ length tail - 8 → Judged (notes ++ tail) ts a → Judged (other ++ tail) ts a
 notes-ignored notes other tail ts a p q short back =
     answers.carried (notes ++ tail) (other ++ tail) ts a
     (ap (λ (x : Run State ℕ). x .course) (replayed.notes-ignored notes other tail 16_384 p q short back))

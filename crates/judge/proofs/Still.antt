@@ -20,7 +20,8 @@ use Rattle.banks.specs.declared.State.{State}
 use Rattle.banks.specs.State.{fresh}
 use Rattle.replay.specs.Replay.{played}
 use Rattle.walk.specs.Turn.{turnOf}
-use Rattle.judge.specs.Judge.{neg, ofCntr, negating, transcriptBy, plain, opposite, courseOf}
+use Rattle.judge.specs.Judge.{neg, ofCntr, negating, plain, opposite, courseOf}
+use Rattle.judge.specs.How.{transcriptBy}
 use Rattle.judge.specs.Facts.{Still}
 use Rattle.judge.proofs.Numbers.{said, said-small}
 use Rattle.judge.proofs.Records.{cntr-small}

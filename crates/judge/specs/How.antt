@@ -4,12 +4,25 @@ use Prim.Native.Nat.{ℕ, _+_, _*_, _/_, _<_, _≤_}
 use mathlib.Core.Path.{_≡_}
 use mathlib.Core.List.{List}
 use lib.ListN.{length, take}
-use Rattle.fold.specs.Run.{going}
-use Rattle.wire.specs.Trailer.{trailerOf}
+use Rattle.fold.specs.Turn.{Turn}
+use Rattle.fold.specs.Run.{going, runOf}
+use Rattle.fold.specs.Output.{bytesOf}
+use Rattle.wire.specs.Bytes.{leBytes}
+use Rattle.banks.specs.declared.State.{State}
+use Rattle.banks.specs.State.{fresh}
+use Rattle.wire.specs.Trailer.{trailerOf, recordsOf}
 use Rattle.wire.specs.declared.Trailer.the-variants.{Found}
-use Rattle.judge.specs.Judge.{plain, courseOf, Agree}
+use Rattle.judge.specs.Judge.{plain, courseOf}
 use Rattle.judge.specs.declared.Verdict.{Verdict}
 use Rattle.judge.specs.declared.Verdict.the-variants.{Same, Different}
+
+-- the transcript of a log by what its records do
+abbrev pub transcriptBy : (State → List ℕ → Turn State ℕ) → List ℕ → List ℕ
+transcriptBy turn log = bytesOf (leBytes 8) (runOf turn fresh (recordsOf log) .readings)
+
+-- the first n readings of two transcripts are the same
+abbrev pub Agree : ℕ → List ℕ → List ℕ → Type 0
+Agree n s t = take (8 * n) s ≡ take (8 * n) t
 
 -- the log has replayed without refusal, its readings are in out, and the transcript ts is as long as they are
 pub record Ready (log : List ℕ) (start : ℕ) (out ts : List ℕ) : Type 0 where

@@ -13,7 +13,7 @@ use Rattle.wire.specs.Bytes.{byte, leBytes}
 use Rattle.wire.specs.Trailer.{recordsOf, editionIn}
 use Rattle.banks.specs.declared.State.{State}
 use Rattle.banks.specs.State.{fresh}
-use Rattle.replay.specs.Replay.{replayOf}
+use Rattle.replay.specs.Replay.{played, replayOf}
 use Rattle.walk.specs.Turn.{turnOf}
 use Rattle.judge.specs.declared.Verdict.{Verdict}
 use Rattle.judge.specs.declared.Verdict.the-variants.{Same, Negated, Both, Different, Refused}
@@ -30,23 +30,16 @@ ofCntr r = eqb (byte r 1) 1 && eqb (byte r 3) 2
 abbrev pub negating : (State → List ℕ → Turn State ℕ) → State → List ℕ → Turn State ℕ
 negating turn s r = retell (λ (v : ℕ). cond (ofCntr r) (neg v) v) (turn s r)
 
--- the transcript of a log by what its records do: plainly, and negated
-abbrev pub transcriptBy : (State → List ℕ → Turn State ℕ) → List ℕ → List ℕ
-transcriptBy turn log = bytesOf (leBytes 8) (runOf turn fresh (recordsOf log) .readings)
-
+-- the transcript of a log: its readings, plainly and negated
 abbrev pub plain : List ℕ → List ℕ
-plain log = transcriptBy (turnOf (editionIn log)) log
+plain log = bytesOf (leBytes 8) (played (editionIn log) (recordsOf log) .readings)
 
 abbrev pub opposite : List ℕ → List ℕ
-opposite log = transcriptBy (negating (turnOf (editionIn log))) log
+opposite log = bytesOf (leBytes 8) (runOf (negating (turnOf (editionIn log))) fresh (recordsOf log) .readings)
 
 -- how the log's replay ends, with room for each of its readings, so that "6 is not given here"
 abbrev pub courseOf : List ℕ → Course
 courseOf log = replayOf log 16_384 .course
-
--- the first n readings of two transcripts are the same
-abbrev pub Agree : ℕ → List ℕ → List ℕ → Type 0
-Agree n s t = take (8 * n) s ≡ take (8 * n) t
 
 -- What is answered to a log and a transcript ts, in numbers: the refusal, 0 for none; the verdict; and for the verdict 4 the index.
 pub data Judged (log ts : List ℕ) : ℕ × ℕ × ℕ → Type 0 where
@@ -60,7 +53,7 @@ pub data Judged (log ts : List ℕ) : ℕ × ℕ × ℕ → Type 0 where
   both : courseOf log ≡ going → ts ≡ plain log → ts ≡ opposite log → Judged log ts (0, 3, 0)
   -- 4 "if none of these, different, with the index of the first reading that differs from the plain replay"
   different : {i : ℕ} → courseOf log ≡ going → length ts ≡ length (plain log) → (ts ≡ opposite log → ⊥)
-      → Agree i ts (plain log) → (Agree (i + 1) ts (plain log) → ⊥) → Judged log ts (0, 4, i)
+      → take (8 * i) ts ≡ take (8 * i) (plain log) → (take (8 * (i + 1)) ts ≡ take (8 * (i + 1)) (plain log) → ⊥) → Judged log ts (0, 4, i)
 
 -- the numbers of an answer
 abbrev pub verdictNumbers : Verdict → ℕ × ℕ × ℕ

@@ -12,8 +12,8 @@ use borrow.Author.Tests.{lt-ltb, le-ltb, le-leb, lt-leb, eq-eqb, ne-eqb}
 use Rattle.pwm.specs.declared.Registers.{Registers}
 use Rattle.pwm.specs.declared.Wave.{Wave}
 use Rattle.pwm.specs.declared.Pwm.{Pwm}
-use Rattle.pwm.specs.Pwm.{inv, mode, topOf, stepped}
-use Rattle.pwm.specs.How.{at, left, moved, often, stepsOf, climbed, wrapped, untilZero}
+use Rattle.pwm.specs.Pwm.{mode, topOf, stepped}
+use Rattle.pwm.specs.How.{inv, at, left, moved, often, stepsOf, climbed, wrapped, untilZero}
 
 -- ---- a step, by where the counter stands
 

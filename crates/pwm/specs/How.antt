@@ -3,10 +3,14 @@
 use Prim.Native.Nat.{ℕ, zero, suc, _+_, _-_}
 use mathlib.Core.Bool.{Bool, not, cond, _&&_}
 use lib.Dec.{ltb, leb}
+use Rattle.bits.specs.Bits.{bit}
 use Rattle.pwm.specs.declared.Registers.{Registers}
 use Rattle.pwm.specs.declared.Wave.{Wave}
 use Rattle.pwm.specs.declared.Pwm.{Pwm}
-use Rattle.pwm.specs.Pwm.{inv, stepped}
+use Rattle.pwm.specs.Pwm.{stepped}
+
+abbrev pub inv : ℕ → Bool
+inv cnfg = bit 0 cnfg
 
 abbrev pub at : ℕ → ℕ → Bool → Wave
 at counter remainder output = record { counter = counter; remainder = remainder; output = output }

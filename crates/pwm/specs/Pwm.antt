@@ -2,7 +2,9 @@
 -- Assumes nothing.
 use Prim.Native.Nat.{ℕ, zero, suc, _+_}
 use mathlib.Core.Bool.{Bool, false, not, cond, _&&_}
+use mathlib.Core.List.{[], _∷_}
 use lib.Dec.{ltb, leb, eqb}
+use lib.ListN.{getD}
 use Rattle.bits.specs.Bits.{bit, num}
 use Rattle.divider.specs.Divider.{dividerOf}
 use Rattle.pwm.specs.declared.Registers.{Registers}
@@ -10,9 +12,6 @@ use Rattle.pwm.specs.declared.Wave.{Wave}
 use Rattle.pwm.specs.declared.Pwm.{Pwm}
 
 -- "CNFG ..: bit 0 INV, bit 2 MODE"
-abbrev pub inv : ℕ → Bool
-inv cnfg = bit 0 cnfg
-
 abbrev pub mode : ℕ → Bool
 mode cnfg = bit 2 cnfg
 
@@ -29,8 +28,8 @@ nextOf runs g counter = cond (leb (topOf runs g counter) counter) 0 (counter + 1
 
 -- "In MODE 1, INV 0, arriving at 0 sets the output, then arriving at CMP clears it; INV 1 swaps set and clear"
 abbrev pub arrived : Registers → ℕ → Bool → Bool
-arrived g counter output = cond (mode (g .cnfg))
-    (cond (eqb counter (g .cmp)) (inv (g .cnfg)) (cond (eqb counter 0) (not (inv (g .cnfg))) output)) output
+arrived g counter output = let inv = bit 0 (g .cnfg) in
+    cond (mode (g .cnfg)) (cond (eqb counter (g .cmp)) inv (cond (eqb counter 0) (not inv) output)) output
 
 -- "at N the remainder is 0 and the counter steps"
 abbrev pub stepped : Bool → Registers → Wave → Wave
@@ -53,31 +52,20 @@ onTicks runs t p = record { registers = p .registers; wave = waited runs t (p .r
 -- ---- a write of register 0 CNFG, 1 CS, 2 MAX or 3 CMP: "No other write moves counter or output"
 
 abbrev pub set : ℕ → ℕ → Registers → Registers
-set register v g = record {
-  cnfg = cond (eqb register 0) v (g .cnfg);
-  cs = cond (eqb register 1) v (g .cs);
-  max = cond (eqb register 2) v (g .max);
-  cmp = cond (eqb register 3) v (g .cmp);
-}
+set register v g = let to : ℕ → ℕ → ℕ = λ n old. cond (eqb register n) v old in
+    record { cnfg = to 0 (g .cnfg); cs = to 1 (g .cs); max = to 2 (g .max); cmp = to 3 (g .cmp) }
 
 -- "Writing CS sets the remainder to 0"; "Writing CNFG with MODE 0 makes the output 0"
 abbrev pub onWrite : ℕ → ℕ → Pwm → Pwm
-onWrite register v p = let w : Wave = record {
-  counter = p .wave .counter;
-  remainder = cond (eqb register 1) 0 (p .wave .remainder);
-  output = cond (eqb register 0) (p .wave .output && mode v) (p .wave .output);
-} in record { registers = set register v (p .registers); wave = w }
+onWrite register v p = let output = cond (eqb register 0) (p .wave .output && mode v) (p .wave .output) in
+    let w : Wave = record { counter = p .wave .counter; remainder = cond (eqb register 1) 0 (p .wave .remainder); output = output } in
+    record { registers = set register v (p .registers); wave = w }
 
 -- ---- what is read: "0 CNFG, 1 CS, 2 MAX, 3 CMP, 4 CNTR, 5 output level"
 
 abbrev pub registerOf : ℕ → Pwm → ℕ
-registerOf register p = cond (eqb register 0) (p .registers .cnfg)
-    (cond (eqb register 1) (p .registers .cs)
-    (cond (eqb register 2) (p .registers .max)
-    (cond (eqb register 3) (p .registers .cmp)
-    (cond (eqb register 4) (p .wave .counter) (num (p .wave .output))))))
+registerOf register p = let g = p .registers in getD (g .cnfg ∷ g .cs ∷ g .max ∷ g .cmp ∷ p .wave .counter ∷ []) register (num (p .wave .output))
 
 -- "Fresh state: all registers 0"
 abbrev pub fresh : Pwm
-fresh = let w : Wave = record { counter = 0; remainder = 0; output = false } in
-    record { registers = record { cnfg = 0; cs = 0; max = 0; cmp = 0 }; wave = w }
+fresh = record { registers = record { cnfg = 0; cs = 0; max = 0; cmp = 0 }; wave = record { counter = 0; remainder = 0; output = false } }

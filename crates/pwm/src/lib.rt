@@ -4,8 +4,8 @@ use std::num::wrapping_add_u16;
 use std::num::wrapping_sub_u16;
 ghost use mathlib.Core.Path.{_≡_};
 ghost use mathlib.Core.Bool.{true};
-ghost use Rattle.pwm.specs.Pwm.{inv, mode, onTicks, onWrite, registerOf, fresh};
-ghost use Rattle.pwm.specs.How.{at, moved, climbed, wrapped, stepsOf, untilZero};
+ghost use Rattle.pwm.specs.Pwm.{mode, onTicks, onWrite, registerOf, fresh};
+ghost use Rattle.pwm.specs.How.{inv, at, moved, climbed, wrapped, stepsOf, untilZero};
 ghost use Rattle.pwm.specs.Facts.{Short};
 
 pub struct Registers {

@@ -12,8 +12,8 @@ use Rattle.rate.specs.declared.Bracket.{Bracket}
 use Rattle.rate.specs.declared.Nearest.{Nearest}
 use Rattle.rate.specs.declared.Found.{Found}
 use Rattle.rate.specs.declared.Found.the-variants.{Pair, Refused}
-use Rattle.rate.specs.Rate.{apart, period, IsPair, AsGood, Within, Wins, InRange, Outcome, outside, loose, none, pair, Answer, pwm, spi}
-use Rattle.rate.specs.Facts.{Settled, hertzPwm, hertzSpi}
+use Rattle.rate.specs.Rate.{apart, period, IsPair, AsGood, Within, Wins, InRange, Outcome, outside, loose, none, pair, foundNumbers, Answer, pwm, spi}
+use Rattle.rate.specs.Facts.{Settled}
 use Rattle.rate.specs.How.{Fair, Fit, Brackets, Asked, undividedOf, nearerOf, pairOf}
 use Rattle.rate.proofs.Dividers.{some, one, next}
 use Rattle.rate.proofs.Order.{within-near}
@@ -273,33 +273,17 @@ module _ (u : Rule) (fair : Fair u) (f tol : ℕ) where
   same-numbers (pair a s w) (none b t e) = absurd (e _ _ (w .pair) (w .within))
   same-numbers (pair a s w) (pair b t v) = let e = one-pair _ _ _ _ w v in rw (e .0, e .1)
 
-  -- a pair's choice is no 0, as a refusal's is
-  some-choice : {v : ℕ × ℕ × ℕ × ℕ} → Outcome u f tol v → v .0 ≡ 0 → 1 ≤ v .1
-  some-choice (outside a) e = absurd (omega arith)
-  some-choice (loose a t) e = absurd (omega arith)
-  some-choice (none a t g) e = absurd (omega arith)
-  some-choice (pair a t w) e = w .pair .0
-
-  apart-kinds : (c x p n : ℕ) → Answer u f tol (Pair c x p) → Answer u f tol (Refused n) → ⊥
-  apart-kinds c x p n h l = let e : c ≡ 0 = ap (λ (v : ℕ × ℕ × ℕ × ℕ). v .1) (same-numbers h l) in omega (arith, some-choice h refl)
-
-  pub same : (r s : Found) → Answer u f tol r → Answer u f tol s → r ≡ s
-  same (Pair c x p) (Pair d y q) h l = ap (λ (v : ℕ × ℕ × ℕ × ℕ). Pair (v .1) (v .2) (v .3)) (same-numbers h l)
-  same (Pair c x p) (Refused n) h l = absurd (apart-kinds c x p n h l)
-  same (Refused n) (Pair c x p) h l = absurd (apart-kinds c x p n l h)
-  same (Refused n) (Refused m) h l = ap (λ (v : ℕ × ℕ × ℕ × ℕ). Refused (v .0)) (same-numbers h l)
-
 pub settled : (u : Rule) → Fair u → Settled u
-settled u fair f tol = (found u f tol, found-right u fair f tol, λ s h. same u fair f tol s (found u f tol) h (found-right u fair f tol))
+settled u fair f tol = (foundNumbers (found u f tol), found-right u fair f tol, λ w h. same-numbers u fair f tol h (found-right u fair f tol))
 
-pub fair-pwm : Fair pwm
+pub fair-pwm : Fair (pwm 1_000)
 fair-pwm = omega arith
 
-pub fair-spi : Fair spi
+pub fair-spi : Fair (spi 1_000)
 fair-spi = omega arith
 
-pub fair-hertz-pwm : Fair hertzPwm
+pub fair-hertz-pwm : Fair (pwm 1)
 fair-hertz-pwm = omega arith
 
-pub fair-hertz-spi : Fair hertzSpi
+pub fair-hertz-spi : Fair (spi 1)
 fair-hertz-spi = omega arith

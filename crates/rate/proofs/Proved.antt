@@ -2,30 +2,21 @@
 use mathlib.Core.Path.{refl}
 use native.Mathlib.Omega.{arith}
 use Rattle.rate.specs.Rate.{pwm, spi}
-use Rattle.rate.specs.Facts.{Settled, hertzPwm, hertzSpi, Thousandfold, RangeSums, wider, FarSums}
+use Rattle.rate.specs.Facts.{Settled, Thousandfold, wider, FarSums}
 use Rattle.rate.proofs.Answers.{found-right, settled, fair-pwm, fair-spi, fair-hertz-pwm, fair-hertz-spi}
 use Rattle.rate.proofs.Thousands.{thousandfold}
 
-pub settled-pwm : Settled pwm
-settled-pwm = settled pwm fair-pwm
+pub settled-pwm : Settled (pwm 1_000)
+settled-pwm = settled (pwm 1_000) fair-pwm
 
-pub settled-spi : Settled spi
-settled-spi = settled spi fair-spi
+pub settled-spi : Settled (spi 1_000)
+settled-spi = settled (spi 1_000) fair-spi
 
-pub thousandfold-pwm : Thousandfold hertzPwm pwm
-thousandfold-pwm = thousandfold hertzPwm fair-hertz-pwm fair-pwm
+pub thousandfold-pwm : Thousandfold pwm
+thousandfold-pwm = thousandfold (pwm 1) fair-hertz-pwm fair-pwm
 
-pub thousandfold-spi : Thousandfold hertzSpi spi
-thousandfold-spi = thousandfold hertzSpi fair-hertz-spi fair-spi
-
-pub range-sums : RangeSums
-range-sums =
-    record {
-      hertz-39 = found-right hertzPwm fair-hertz-pwm 39 0;
-      hertz-40001 = found-right hertzPwm fair-hertz-pwm 40_001 0;
-      pwm-39999 = found-right pwm fair-pwm 39_999 0;
-      pwm-40000001 = found-right pwm fair-pwm 40_000_001 0;
-    }
+pub thousandfold-spi : Thousandfold spi
+thousandfold-spi = thousandfold (spi 1) fair-hertz-spi fair-spi
 
 pub far-sums : FarSums
 far-sums =

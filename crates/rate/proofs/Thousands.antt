@@ -1,10 +1,10 @@
 -- A rule in a unit of which there are 1,000 as many answers to 1,000 times the rate what it answered before. Assumes nothing.
 use mathlib.Core.Path.{_≡_}
+use mathlib.Core.Logic.{_↔_}
 use Prim.Native.Nat.{ℕ, _*_}
 use native.Mathlib.Omega.{arith}
 use Rattle.rate.specs.declared.Rule.{Rule}
 use Rattle.rate.specs.Rate.{apart, Within, AsGood, Outcome, outside, loose, none, pair}
-use Rattle.rate.specs.Facts.{Thousandfold}
 use Rattle.rate.specs.How.{Fair}
 use Rattle.rate.proofs.Answers.{settled}
 
@@ -45,8 +45,8 @@ there h f tol (pair a t w) =
     })
 
 -- the other way round, since a request has one answer
-pub thousandfold : (h : Rule) → Fair h → Fair (inThousands h) → Thousandfold h (inThousands h)
-thousandfold h fair fair′ f tol r =
+pub thousandfold : (h : Rule) → Fair h → Fair (inThousands h) → (f tol : ℕ) (v : ℕ × ℕ × ℕ × ℕ) → Outcome h f tol v ↔ Outcome (inThousands h) (1_000 * f) tol v
+thousandfold h fair fair′ f tol v =
     let a = settled h fair f tol in
     let b = settled (inThousands h) fair′ (1_000 * f) tol in
-    (there h f tol, λ g. rw (b .2 r g, ← b .2 (a .0) (there h f tol (a .1))) (a .1))
+    (there h f tol, λ g. rw (b .2 v g, ← b .2 (a .0) (there h f tol (a .1))) (a .1))

@@ -12,14 +12,14 @@ use Rattle.rate.specs.declared.Rated.the-variants.{Ratio, Unset}
 use Rattle.rate.specs.declared.Found.{Found}
 use Rattle.rate.specs.declared.Found.the-variants.{Pair, Refused}
 
--- "PWM: .. period P = N(X+1) ticks", of a clock with 40,000,000 ticks a second, 40,000,000,000 millihertz; "whole millihertz, 40,000 to
--- 40,000,000 for PWM"
-abbrev pub pwm : Rule
-pwm = record { hertz = 40_000_000; clock = 40_000_000_000; low = 40_000; high = 40_000_000; base = 1 }
+-- in a unit of which k are a hertz: "PWM: 40 to 40,000 Hz, period P = N(X+1) ticks", of a clock with 40,000,000 ticks a second; with k 1,000
+-- "whole millihertz, 40,000 to 40,000,000 for PWM"
+abbrev pub pwm : ℕ → Rule
+pwm k = record { hertz = 40_000_000; clock = k * 40_000_000; low = k * 40; high = k * 40_000; base = 1 }
 
--- "SPI: .. P = 2N(X+1)"; "40,000 to 4,000,000,000 for SPI"
-abbrev pub spi : Rule
-spi = record { hertz = 40_000_000; clock = 40_000_000_000; low = 40_000; high = 4_000_000_000; base = 2 }
+-- "SPI: 40 to 4,000,000 Hz, P = 2N(X+1)"; "40,000 to 4,000,000,000 for SPI"
+abbrev pub spi : ℕ → Rule
+spi k = record { hertz = 40_000_000; clock = k * 40_000_000; low = k * 40; high = k * 4_000_000; base = 2 }
 
 abbrev pub InRange : Rule → ℕ → Type 0
 InRange u f = (u .low ≤ f) × (f ≤ u .high)
@@ -32,11 +32,12 @@ period u c x = u .base * dividerOf c * (x + 1)
 abbrev pub IsPair : ℕ → ℕ → Type 0
 IsPair c x = (1 ≤ c) × (c ≤ 7) × (x ≤ 65_535)
 
--- "From registers the rate is the fraction 40,000,000/P", "with no range check but 15": a "divider choice 0 or above 7, or X above 65,535"
-abbrev pub rateOf : Rule → ℕ → ℕ → Rated
-rateOf u c x = cond (ltb c 1 || (ltb 7 c || ltb 65_535 x)) (Unset 15) (Ratio (u .hertz) (period u c x))
+-- "From registers the rate is the fraction 40,000,000/P, returned as the numbers 40,000,000 and P, with no range check but 15": a "divider choice 0 or
+-- above 7, or X above 65,535". The refusal, 0 for none, and the fraction's two numbers, 0 beside a refusal
+abbrev pub rateOf : Rule → ℕ → ℕ → ℕ × ℕ × ℕ
+rateOf u c x = cond (ltb c 1 || (ltb 7 c || ltb 65_535 x)) (15, 0, 0) (0, u .hertz, period u c x)
 
--- its numbers: the refusal, 0 for none, and the fraction's two, 0 beside a refusal
+-- the numbers of such an answer
 abbrev pub ratedNumbers : Rated → ℕ × ℕ × ℕ
 ratedNumbers (Ratio k p) = (0, k, p)
 ratedNumbers (Unset n) = (n, 0, 0)

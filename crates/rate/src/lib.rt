@@ -1,7 +1,7 @@
 // The rate finder: the divider choice and X whose rate is nearest to a wanted one, and the rate that a choice and X give.
 ghost use mathlib.Core.Path.{_≡_};
 ghost use Prim.Native.Nat.{_≤_, _<_, _^_};
-ghost use Rattle.rate.specs.Rate.{pwm, spi, rateOf, Answer};
+ghost use Rattle.rate.specs.Rate.{pwm, spi, rateOf, ratedNumbers, Answer};
 ghost use Rattle.rate.specs.How.{Fair, Fit, Brackets, Around, Asked, undividedOf, coarserOf, nearerOf, pairOf};
 use divider::divider;
 
@@ -174,14 +174,14 @@ fn find(rule: Rule, f: u64, tol: u64) -> Found
 
 // The pair for a PWM rate in millihertz, within the tolerance in parts per million.
 pub fn find_pwm(f: u64, tol: u64) -> Found
-    ensures { λ r. ⌜ Answer pwm f tol r ⌝ }
+    ensures { λ r. ⌜ Answer (pwm 1_000) f tol r ⌝ }
 {
     find(PWM, f, tol)
 }
 
 // The pair for an SPI rate.
 pub fn find_spi(f: u64, tol: u64) -> Found
-    ensures { λ r. ⌜ Answer spi f tol r ⌝ }
+    ensures { λ r. ⌜ Answer (spi 1_000) f tol r ⌝ }
 {
     find(SPI, f, tol)
 }
@@ -189,7 +189,7 @@ pub fn find_spi(f: u64, tol: u64) -> Found
 // The rate of a divider choice and X.
 fn rate_of(rule: Rule, choice: u64, x: u64) -> Rated
     requires { ⌜ Fair rule ⌝ }
-    ensures { λ r. ⌜ r ≡ rateOf rule choice x ⌝ }
+    ensures { λ r. ⌜ ratedNumbers r ≡ rateOf rule choice x ⌝ }
 {
     if choice < 1 {
         return Rated::Unset(15);
@@ -208,14 +208,14 @@ fn rate_of(rule: Rule, choice: u64, x: u64) -> Rated
 
 // The rate that PWM registers give.
 pub fn pwm_rate(choice: u64, x: u64) -> Rated
-    ensures { λ r. ⌜ r ≡ rateOf pwm choice x ⌝ }
+    ensures { λ r. ⌜ ratedNumbers r ≡ rateOf (pwm 1_000) choice x ⌝ }
 {
     rate_of(PWM, choice, x)
 }
 
 // The rate that SPI registers give.
 pub fn spi_rate(choice: u64, x: u64) -> Rated
-    ensures { λ r. ⌜ r ≡ rateOf spi choice x ⌝ }
+    ensures { λ r. ⌜ ratedNumbers r ≡ rateOf (spi 1_000) choice x ⌝ }
 {
     rate_of(SPI, choice, x)
 }

@@ -15,11 +15,11 @@ use Rattle.decimal.proofs.Puts.{put-nothing}
 use Rattle.rate.specs.declared.Rule.{Rule}
 use Rattle.rate.specs.declared.Found.{Found}
 use Rattle.rate.specs.declared.Rated.{Rated}
-use Rattle.rate.specs.Rate.{rateOf, Answer}
+use Rattle.rate.specs.Rate.{rateOf, ratedNumbers, Answer}
 use Rattle.printed.proofs.Prints.{put-counts}
 use Rattle.rate_print.specs.declared.Question.{Question}
 use Rattle.rate_print.specs.declared.Question.the-variants.{Pair, Rate, Other}
-use Rattle.rate_print.specs.Said.{same, ruleOf, foundText, ratedText, rateSaid, PairSaid, AnswerSaid}
+use Rattle.rate_print.specs.Said.{same, ruleOf, foundText, ratedText, PairSaid, RateSaid, AnswerSaid}
 
 -- ---- two words are the same
 
@@ -68,24 +68,24 @@ module _ (s : Bool) (a b : Decimal) (out out′ : List ℕ) (n : ℕ) where
   pub no-tol : (f : ℕ) → a ≡ Number f → b ≡ NoNumber → PairSaid (ruleOf s) (Number f) NoNumber out out′ n → PairSaid (ruleOf s) a b out out′ n
   no-tol f e g x = rw (e, g) x
 
-  pub no-choice : a ≡ NoNumber → Put out 0 (rateSaid (ruleOf s) NoNumber b) out′ n → Put out 0 (rateSaid (ruleOf s) a b) out′ n
+  pub no-choice : a ≡ NoNumber → RateSaid (ruleOf s) NoNumber b out out′ n → RateSaid (ruleOf s) a b out out′ n
   no-choice e x = rw e x
 
-  pub no-x : (c : ℕ) → a ≡ Number c → b ≡ NoNumber → Put out 0 (rateSaid (ruleOf s) (Number c) NoNumber) out′ n → Put out 0 (rateSaid (ruleOf s) a b) out′ n
+  pub no-x : (c : ℕ) → a ≡ Number c → b ≡ NoNumber → RateSaid (ruleOf s) (Number c) NoNumber out out′ n → RateSaid (ruleOf s) a b out out′ n
   no-x c e g x = rw (e, g) x
 
   module _ (t : Bool) (e : s ≡ t) where
     pub found : (f tol : ℕ) (r : Found) → a ≡ Number f → b ≡ Number tol → Answer (ruleOf t) f tol r → Put out 0 (foundText r) out′ n → PairSaid (ruleOf s) a b out out′ n
     found f tol r g h x y = rw (e, g, h) (r, x, y)
 
-    pub rated : (c x : ℕ) (r : Rated) → a ≡ Number c → b ≡ Number x → r ≡ rateOf (ruleOf t) c x → Put out 0 (ratedText r) out′ n → Put out 0 (rateSaid (ruleOf s) a b) out′ n
-    rated c x r g h i y = rw (e, g, h, ← i) y
+    pub rated : (c x : ℕ) (r : Rated) → a ≡ Number c → b ≡ Number x → ratedNumbers r ≡ rateOf (ruleOf t) c x → Put out 0 (ratedText r) out′ n → RateSaid (ruleOf s) a b out out′ n
+    rated c x r g h i y = rw (e, g, h) (r, i, y)
 
 module _ (q : Question) (a b : Decimal) (out out′ : List ℕ) (n : ℕ) where
   pub says-pair : (s : Bool) → q ≡ Pair s → PairSaid (ruleOf s) a b out out′ n → AnswerSaid q a b out out′ n
   says-pair s e x = rw e x
 
-  pub says-rate : (s : Bool) → q ≡ Rate s → Put out 0 (rateSaid (ruleOf s) a b) out′ n → AnswerSaid q a b out out′ n
+  pub says-rate : (s : Bool) → q ≡ Rate s → RateSaid (ruleOf s) a b out out′ n → AnswerSaid q a b out out′ n
   says-rate s e x = rw e x
 
   pub says-nothing : q ≡ Other → out′ ≡ out → n ≡ 0 → AnswerSaid q a b out out′ n
@@ -95,3 +95,8 @@ pub pair-counts : (u : Rule) (a b : Decimal) (out out′ : List ℕ) (n : ℕ) �
 pair-counts u NoNumber b out out′ n x = put-counts out out′ _ n x
 pair-counts u (Number f) NoNumber out out′ n x = put-counts out out′ _ n x
 pair-counts u (Number f) (Number tol) out out′ n x = put-counts out out′ _ n (x .2)
+
+pub rate-counts : (u : Rule) (a b : Decimal) (out out′ : List ℕ) (n : ℕ) → RateSaid u a b out out′ n → Counts n out′
+rate-counts u NoNumber b out out′ n x = put-counts out out′ _ n x
+rate-counts u (Number c) NoNumber out out′ n x = put-counts out out′ _ n x
+rate-counts u (Number c) (Number y) out out′ n x = put-counts out out′ _ n (x .2)

@@ -1,4 +1,5 @@
 -- What the program prints to `pwm`, `spi`, `pwm-rate` and `spi-rate` with two words. Assumes nothing.
+use mathlib.Core.Path.{_≡_}
 use mathlib.Core.Bool.{Bool, true, false, _&&_, cond}
 use mathlib.Core.List.{List, [], _∷_}
 use Prim.Native.Nat.{ℕ}
@@ -11,7 +12,7 @@ use Rattle.rate.specs.declared.Found.{Found}
 use Rattle.rate.specs.declared.Found.the-variants.{Pair as FoundPair, Refused}
 use Rattle.rate.specs.declared.Rated.{Rated}
 use Rattle.rate.specs.declared.Rated.the-variants.{Ratio, Unset}
-use Rattle.rate.specs.Rate.{pwm, spi, rateOf, Answer}
+use Rattle.rate.specs.Rate.{pwm, spi, rateOf, ratedNumbers, Answer}
 use Rattle.text.specs.Text.{pairText, rateText, refusedText, noNumberText}
 use Rattle.rate_print.specs.declared.Question.{Question}
 use Rattle.rate_print.specs.declared.Question.the-variants.{Pair, Rate, Other}
@@ -33,8 +34,8 @@ questionOf word =
     (cond (same word (115 ∷ 112 ∷ 105 ∷ 45 ∷ 114 ∷ 97 ∷ 116 ∷ 101 ∷ [])) (Rate true) Other)))
 
 abbrev pub ruleOf : Bool → Rule
-ruleOf false = pwm
-ruleOf true = spi
+ruleOf false = pwm 1_000
+ruleOf true = spi 1_000
 
 -- ---- the answers; what is no number is said to be none, as RATE, TOL, CHOICE or X
 
@@ -51,13 +52,13 @@ PairSaid u NoNumber b out out′ n = Put out 0 (noNumberText (82 ∷ 65 ∷ 84 �
 PairSaid u (Number f) NoNumber out out′ n = Put out 0 (noNumberText (84 ∷ 79 ∷ 76 ∷ [])) out′ n
 PairSaid u (Number f) (Number tol) out out′ n = (r : Found) × Answer u f tol r × Put out 0 (foundText r) out′ n
 
-abbrev pub rateSaid : Rule → Decimal → Decimal → List ℕ
-rateSaid u NoNumber b = noNumberText (67 ∷ 72 ∷ 79 ∷ 73 ∷ 67 ∷ 69 ∷ [])
-rateSaid u (Number c) NoNumber = noNumberText (88 ∷ [])
-rateSaid u (Number c) (Number x) = ratedText (rateOf u c x)
+abbrev pub RateSaid : Rule → Decimal → Decimal → List ℕ → List ℕ → ℕ → Type 0
+RateSaid u NoNumber b out out′ n = Put out 0 (noNumberText (67 ∷ 72 ∷ 79 ∷ 73 ∷ 67 ∷ 69 ∷ [])) out′ n
+RateSaid u (Number c) NoNumber out out′ n = Put out 0 (noNumberText (88 ∷ [])) out′ n
+RateSaid u (Number c) (Number x) out out′ n = (r : Rated) × (ratedNumbers r ≡ rateOf u c x) × Put out 0 (ratedText r) out′ n
 
 -- to any other word nothing
 abbrev pub AnswerSaid : Question → Decimal → Decimal → List ℕ → List ℕ → ℕ → Type 0
 AnswerSaid (Pair s) a b out out′ n = PairSaid (ruleOf s) a b out out′ n
-AnswerSaid (Rate s) a b out out′ n = Put out 0 (rateSaid (ruleOf s) a b) out′ n
+AnswerSaid (Rate s) a b out out′ n = RateSaid (ruleOf s) a b out out′ n
 AnswerSaid Other a b out out′ n = Put out 0 [] out′ n

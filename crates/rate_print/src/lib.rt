@@ -5,7 +5,7 @@ use rate::Rated;
 ghost use mathlib.Core.Path.{_≡_};
 ghost use Rattle.io.specs.Counts.{Counts};
 ghost use Rattle.decimal.specs.Put.{Put};
-ghost use Rattle.rate_print.specs.Said.{questionOf, ruleOf, foundText, ratedText, rateSaid, PairSaid, AnswerSaid};
+ghost use Rattle.rate_print.specs.Said.{questionOf, ruleOf, foundText, ratedText, PairSaid, RateSaid, AnswerSaid};
 
 // What the first argument asks for, of PWM or SPI.
 pub enum Question {
@@ -66,7 +66,7 @@ fn say_pair(text: &mut [u8], spi: bool, a: Decimal, b: Decimal) -> usize
 }
 
 fn say_rate(text: &mut [u8], spi: bool, a: Decimal, b: Decimal) -> usize
-    ensures { λ r. ⌜ Put (now (text .entry)) 0 (rateSaid (ruleOf spi) a b) (now (text .exit)) r ⌝ }
+    ensures { λ r. ⌜ RateSaid (ruleOf spi) a b (now (text .entry)) (now (text .exit)) r ⌝ }
 {
     let Decimal::Number(choice) = a else {
         return text::no_number_text(text, b"CHOICE");

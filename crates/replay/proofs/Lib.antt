@@ -3,4 +3,5 @@ mod Whole
 pub mod Numbers
 pub mod Notes
 pub mod OneBank
+pub mod Replays
 pub mod Proved

@@ -8,9 +8,9 @@ use mir.Syntax.{w64}
 use mir.Val.{Fits}
 use Rattle.judge.specs.declared.Verdict.{Verdict}
 use Rattle.judge.specs.declared.Verdict.the-variants.{Different, Refused}
-use Rattle.judge.specs.Judge.{verdictNumbers, Answer}
+use Rattle.judge.specs.Judge.{Judged, verdictNumbers, Answer}
 use Rattle.judge.proofs.Answers.{small-index, no-two}
-use Rattle.rivandoze.specs.JudgeWord.{judgedIn, JudgeWord, JudgeSettled}
+use Rattle.rivandoze.specs.Word.{judgedIn}
 
 -- a number by its parts, and parts that fit
 together : ℕ × ℕ × ℕ → ℕ
@@ -50,8 +50,8 @@ module _ (log ts : List ℕ) (r : Verdict) (a : Answer log ts r) where
   pub index-small : verdictNumbers r .2 < 2048
   index-small = small-index log ts (verdictNumbers r) a
 
-  pub judge-word : (w : ℕ) → judgedIn w ≡ verdictNumbers r → JudgeWord log ts w
+  pub judge-word : (w : ℕ) → judgedIn w ≡ verdictNumbers r → Judged log ts (judgedIn w)
   judge-word w e = rw e a
 
-pub judge-settled : JudgeSettled
+pub judge-settled : (log ts : List ℕ) (v w : ℕ) → Judged log ts (judgedIn v) → Judged log ts (judgedIn w) → v ≡ w
 judge-settled log ts v w p q = sym (whole v) ∙ ap together (no-two log ts (judgedIn v) (judgedIn w) p q) ∙ whole w

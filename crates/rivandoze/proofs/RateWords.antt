@@ -15,7 +15,7 @@ use Rattle.rate.specs.Rate.{pwm, spi, Outcome, outside, loose, none, pair, Answ
 use Rattle.rate.specs.How.{Fair}
 use Rattle.rate.proofs.Dividers.{most}
 use Rattle.rate.proofs.Answers.{same-numbers}
-use Rattle.rivandoze.specs.RateWords.{foundIn, ratedIn, FindWord, RateWord, WordsSettled}
+use Rattle.rivandoze.specs.Word.{foundIn, ratedIn}
 use Rattle.rivandoze.specs.How.{findWord, rateWord}
 
 -- ---- parts that fit are read back as they were, and a number is its parts
@@ -44,10 +44,10 @@ pub record Narrow (u : Rule) : Type 0 where
   pub clock : u .hertz < 2 ^ 32
   pub twice : u .base ≤ 2
 
-pub narrow-pwm : Narrow pwm
+pub narrow-pwm : Narrow (pwm 1_000)
 narrow-pwm = omega arith
 
-pub narrow-spi : Narrow spi
+pub narrow-spi : Narrow (spi 1_000)
 narrow-spi = omega arith
 
 period-small : (u : Rule) → Narrow u → (c x : ℕ) → 1 ≤ c → c ≤ 7 → x ≤ 65_535 → period u c x ≤ 8_388_608
@@ -81,7 +81,7 @@ module _ (u : Rule) (narrow : Narrow u) (f tol : ℕ) where
   found-period-fits r h = fits h .period
 
   -- the number of an answer says the answer
-  pub found-word : (r : Found) (w : ℕ) → Answer u f tol r → w ≡ findWord (foundNumbers r) → FindWord u f tol w
+  pub found-word : (r : Found) (w : ℕ) → Answer u f tol r → w ≡ findWord (foundNumbers r) → Outcome u f tol (foundIn w)
   found-word r w h e =
       let v = foundNumbers r in
       let k = fits h in
@@ -127,11 +127,11 @@ module _ (u : Rule) (narrow : Narrow u) (c x : ℕ) where
     clock : v .1 < 2 ^ 32
     period : v .2 < 2 ^ 24
 
-  rated-fits : Rates (ratedNumbers (rateOf u c x))
+  rated-fits : Rates (rateOf u c x)
   rated-fits = by (ltb c 1) (ltb 7 c) (ltb 65_535 x) refl refl refl
     where
       by : (s t v : Bool) → ltb c 1 ≡ s → ltb 7 c ≡ t → ltb 65_535 x ≡ v →
-          Rates (ratedNumbers (cond (s || (t || v)) (Unset 15) (Ratio (u .hertz) (period u c x))))
+          Rates (cond (s || (t || v)) (15, 0, 0) (0, u .hertz, period u c x))
       by true t v es et ev = omega arith
       by false true v es et ev = omega arith
       by false false true es et ev = omega arith
@@ -139,20 +139,19 @@ module _ (u : Rule) (narrow : Narrow u) (c x : ℕ) where
           let h = period-small u narrow c x (ltb-false c 1 es) (ltb-false 7 c et) (ltb-false 65_535 x ev) in
           record { refusal = omega arith; clock = narrow .clock; period = omega arith }
 
-  pub period-fits : (r : Rated) → r ≡ rateOf u c x → ratedNumbers r .2 < 2 ^ 24
+  pub period-fits : (r : Rated) → ratedNumbers r ≡ rateOf u c x → ratedNumbers r .2 < 2 ^ 24
   period-fits r e = rw e (rated-fits .period)
 
-  pub clock-fits : (r : Rated) → r ≡ rateOf u c x → ratedNumbers r .1 < 2 ^ 32
+  pub clock-fits : (r : Rated) → ratedNumbers r ≡ rateOf u c x → ratedNumbers r .1 < 2 ^ 32
   clock-fits r e = rw e (rated-fits .clock)
 
-  pub rated-word : (r : Rated) (w : ℕ) → r ≡ rateOf u c x → w ≡ rateWord (ratedNumbers r) → RateWord u c x w
+  pub rated-word : (r : Rated) (w : ℕ) → ratedNumbers r ≡ rateOf u c x → w ≡ rateWord (ratedNumbers r) → ratedIn w ≡ rateOf u c x
   rated-word r w e l =
-      let v = ratedNumbers (rateOf u c x) in
+      let v = rateOf u c x in
       rw (l, e) (rated-back (v .0) (v .1) (v .2) (rated-fits .refusal) (rated-fits .period))
 
-pub settled : (u : Rule) → Fair u → WordsSettled u
-settled u fair =
-    record {
-      found = λ f tol v w h l. sym (found-whole v) ∙ ap findWord (same-numbers u fair f tol h l) ∙ found-whole w;
-      rated = λ c x v w h l. sym (rated-whole v) ∙ ap rateWord (h ∙ sym l) ∙ rated-whole w;
-    }
+pub found-settled : (u : Rule) → Fair u → (f tol v w : ℕ) → Outcome u f tol (foundIn v) → Outcome u f tol (foundIn w) → v ≡ w
+found-settled u fair f tol v w h l = sym (found-whole v) ∙ ap findWord (same-numbers u fair f tol h l) ∙ found-whole w
+
+pub rated-settled : (v w : ℕ) → ratedIn v ≡ ratedIn w → v ≡ w
+rated-settled v w h = sym (rated-whole v) ∙ ap rateWord h ∙ rated-whole w

@@ -26,9 +26,9 @@ use Rattle.live.specs.Live.{chunkOf, endOf}
 use Rattle.stream.specs.Stream.{On}
 use Rattle.stream.specs.declared.Told.{Told}
 use Rattle.writer.specs.declared.Written.{Written}
-use Rattle.rivandoze.specs.Word.{refusalIn, Word, WordSettled}
+use Rattle.rivandoze.specs.Word.{Word}
 
-pub a-word : (k n w : ℕ) → refusalIn w ≡ k → w / 256 ≡ n → Word k n w
+pub a-word : (k n w : ℕ) → w % 256 ≡ k → w / 256 ≡ n → Word k n w
 a-word k n w a b = record { refusal = a; above = b }
 
 -- ---- how large the numbers are
@@ -55,7 +55,7 @@ module _ (w : ℕ) where
   pub made-word : (d e : Made) → d ≡ e → Word (d .refused) (d .size) w → Word (e .refused) (e .size) w
   made-word d e q x = rw q at x
 
-  pub entries-word : (text out out′ : List ℕ) (k n : ℕ) → Answer text out k n out′ → Word k n w → Answer text out (refusalIn w) (w / 256) out′
+  pub entries-word : (text out out′ : List ℕ) (k n : ℕ) → Answer text out k n out′ → Word k n w → Answer text out (w % 2 ^ 8) (w / 2 ^ 8) out′
   entries-word text out out′ k n a x = rw (x .refusal, x .above) a
 
   pub sign-word : (t : Signs) (s : Signed) → s ≡ signedOf t → Word (s .refused) (s .count) w → Word (t .refused) (length (t .entries)) w
@@ -78,5 +78,5 @@ module _ (w : ℕ) where
   pub write-word : (d e : Written) → d ≡ e → Word (d .refused) (d .number % 2 ^ 56) w → Word (e .refused) (e .number % 2 ^ 56) w
   write-word d e q x = rw q at x
 
-pub word-settled : WordSettled
+pub word-settled : (k n v w : ℕ) → Word k n v → Word k n w → v ≡ w
 word-settled k n v w a b = omega (arith, a .refusal, a .above, b .refusal, b .above)

@@ -2,8 +2,8 @@
 // of the first reading that differs.
 ghost use mathlib.Core.Path.{_≡_};
 ghost use Prim.Native.Nat.{_<_};
-ghost use Rattle.judge.specs.Judge.{verdictNumbers};
-ghost use Rattle.rivandoze.specs.JudgeWord.{judgedIn, JudgeWord};
+ghost use Rattle.judge.specs.Judge.{Judged, verdictNumbers};
+ghost use Rattle.rivandoze.specs.Word.{judgedIn};
 use judge::Verdict;
 
 fn verdict_word(verdict: Verdict) -> u64
@@ -21,7 +21,7 @@ fn verdict_word(verdict: Verdict) -> u64
 
 #[no_mangle]
 pub extern "C" fn rvz_judge(log: &[u8], transcript: &[u8]) -> u64
-    ensures { λ r. ⌜ JudgeWord (now (log .entry)) (now (transcript .entry)) r ⌝ }
+    ensures { λ r. ⌜ Judged (now (log .entry)) (now (transcript .entry)) (judgedIn r) ⌝ }
 {
     verdict_word(judge::judge(log, transcript))
 }

@@ -16,7 +16,7 @@ ghost use Rattle.writer.specs.Writer.{writtenOf, outputOf as write-output};
 ghost use Rattle.live.specs.Live.{chunkOf, endOf};
 ghost use Rattle.image.specs.Image.{imageOf};
 ghost use Rattle.stream.specs.Stream.{startOf, startedIn, On};
-ghost use Rattle.rivandoze.specs.Word.{refusalIn, Word};
+ghost use Rattle.rivandoze.specs.Word.{Word};
 
 fn word(refused: u8, number: usize) -> u64
     requires { ⌜ number < 2 ^ 56 ⌝ }
@@ -48,7 +48,7 @@ pub extern "C" fn rvz_dump(log: &[u8], out: &mut [u8]) -> u64
 // How many entries.
 #[no_mangle]
 pub extern "C" fn rvz_dump_read(text: &[u8], out: &mut [u8]) -> u64
-    ensures { λ r. ⌜ Answer (now (text .entry)) (now (out .entry)) (refusalIn r) (r / 256) (now (out .exit)) ⌝ }
+    ensures { λ r. ⌜ Answer (now (text .entry)) (now (out .entry)) (r % 2 ^ 8) (r / 2 ^ 8) (now (out .exit)) ⌝ }
 {
     let e = dump_read::dump_read(text, out);
     word(e.refused, e.count)

@@ -19,7 +19,8 @@ use Rattle.wire.specs.declared.Trailer.{Trailer}
 use Rattle.wire.specs.declared.Trailer.the-variants.{Found, Refused}
 use Rattle.wire.proofs.Laws.{trailer-pointed}
 use Rattle.wire.proofs.Numbers.{le-behind}
-use Rattle.shrink.specs.Shrink.{trailer, logOf}
+use Rattle.shrink.specs.Shrink.{logOf}
+use Rattle.shrink.specs.How.{trailer}
 use Rattle.shrink.proofs.Every.{Sixteen, concat-long, records-concat}
 
 -- ---- a trailer that is found names an edition

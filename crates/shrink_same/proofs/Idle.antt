@@ -35,8 +35,8 @@ use Rattle.travel.specs.Stretch.{names}
 use Rattle.travel.proofs.Events.{Event, pins, config, route, nothing, eventAt}
 use Rattle.travel.proofs.Counting.{Channel, onEvent}
 use Rattle.travel.proofs.Banks.{Sound, viewAt, turn-view, sound-turn, sound-fresh}
-use Rattle.shrink.specs.Shrink.{writes, shows, drops}
-use Rattle.shrink.specs.How.{sortOf, none, dropsBy, learnsBy, rule}
+use Rattle.shrink.specs.Shrink.{shows, drops}
+use Rattle.shrink.specs.How.{writes, sortOf, none, dropsBy, learnsBy, rule}
 use Rattle.shrink.proofs.Sorts.{Row, row, applied-row}
 use Rattle.shrink.proofs.Same.{Agrees, agrees-first, learns-next, same-drops}
 use Rattle.shrink_same.proofs.Again.{pins-twice, not-ticked, map-itself}

@@ -3,4 +3,5 @@ mod Idle
 mod Runs
 mod Bytes
 mod Longer
+pub mod Back
 pub mod Proved

@@ -27,7 +27,8 @@ use Rattle.travel.specs.Stretch.{names, pinsIn, keeps, undisturbed, Stretch}
 use Rattle.travel.proofs.Events.{Event, pins, config, route, nothing, eventAt, pins-bank}
 use Rattle.travel.proofs.Counting.{Channel, onEvent}
 use Rattle.travel.proofs.Banks.{Sound, viewAt, turn-view, turn-pins, sound-turn, sound-fresh}
-use Rattle.shrink.specs.Shrink.{writes, shows, drops}
+use Rattle.shrink.specs.Shrink.{shows, drops}
+use Rattle.shrink.specs.How.{writes}
 use Rattle.shrink.proofs.Every.{Every}
 use Rattle.shrink_same.proofs.Runs.{dropped-shows}
 

@@ -1,20 +1,19 @@
 -- The facts of specs/Same.antt. Assumes nothing.
 use mathlib.Core.Path.{_≡_, refl, sym, ap, _∙_, subst}
-use mathlib.Core.Bool.{Bool, true, false, not, cond, _&&_, true≢false, false≢true}
+use mathlib.Core.Bool.{Bool, true, false, cond}
 use mathlib.Core.List.{List, [], _∷_, _++_, reverse, append-assoc}
 use Prim.Native.Nat.{ℕ, _+_, _*_, _/_, _≤_, _<_}
 use native.Mathlib.Omega.{arith}
-use lib.Dec.{eqb, leb}
+use lib.Dec.{leb}
 use lib.ListN.{length, take, drop}
-use borrow.Author.Tests.{eqb-true, eq-eqb, leb-true, leb-false, not-true}
-use Rattle.laws.proofs.Truth.{both-true}
+use borrow.Author.Tests.{leb-true}
 use Rattle.fold.specs.Run.{Run, Course, going, stopped, under, halted}
 use Rattle.fold.specs.Device.{records}
 use Rattle.fold.specs.Shrink as fold
 use Rattle.fold.proofs.Laws as laws
 use Rattle.fold.proofs.Runs.{halts}
 use Rattle.edition.specs.declared.Edition.{Edition}
-use Rattle.wire.specs.Bytes.{leOf, readsIn}
+use Rattle.wire.specs.Bytes.{readsIn}
 use Rattle.wire.specs.Trailer.{trailerOf, recordsAt, recordsOf, editionAt, editionIn}
 use Rattle.wire.specs.declared.Trailer.{Trailer}
 use Rattle.wire.specs.declared.Trailer.the-variants.{Found, Refused}
@@ -28,12 +27,12 @@ use Rattle.replay.specs.Replay.{played, playOf, replayFrom, replayOf}
 use Rattle.walk.specs.Turn.{turnOf}
 use Rattle.replay.proofs.Numbers.{accepted}
 use Rattle.replay.proofs.Proved as replay
-use Rattle.travel.specs.Stretch.{names, Stretch}
-use Rattle.shrink.specs.Shrink.{writes, shows, drops, kept, logOf, smallerAt, smallerOf}
+use Rattle.travel.specs.Stretch.{Stretch}
+use Rattle.shrink.specs.Shrink.{drops, kept, logOf, smallerAt, smallerOf}
 use Rattle.shrink.specs.How.{rule, none, keptIn, smallerIn}
 use Rattle.shrink.proofs.Every.{Sixteen}
 use Rattle.shrink.proofs.Whole.{notes-count, sixteen, shorter, log-ready, log-kept, log-smaller}
-use Rattle.shrink_same.specs.Same.{Same, AllSame, Between, Previous, Exactly, AllExactly, Kept, Stretches}
+use Rattle.shrink_same.specs.Same.{Same, Kept, Stretches}
 use Rattle.shrink_same.proofs.Runs.{same-run, kept-twice, fewer-reads, kept-cut, kept-first, calm-kept, steps-kept, doubles-kept, steps-again, doubles-again}
 use Rattle.shrink_same.proofs.Longer.{Longer, longer}
 use Rattle.shaft.specs.Shaft.{steps, doubles}
@@ -123,9 +122,9 @@ found-one log room goes P h = by (trailerOf log) refl
     by (Found a n e) f = h a n e f
     by (Refused k) f = absurd (halts k (sym (ap (λ (t : Trailer). replayFrom t log room .course) f) ∙ goes))
 
-pub all-same : AllSame
+pub all-same : (log : List ℕ) (room : ℕ) (goes : replayOf log room .course ≡ going) → Same log room goes
 all-same log room goes =
-    found-one log room goes (Same log room) λ a n e f.
+    found-one log room goes (Same log room goes) λ a n e f.
     record {
       trailer = λ b m u g. (its-trailer log room goes b m u g, its-notes log room goes b m u g);
       records = its-records log room goes a n e f;
@@ -133,40 +132,6 @@ all-same log room goes =
       again = same-again log room goes a n e f;
       shorter = less log room goes a n e f;
     }
-
--- ---- looking back
-
-module _ (k i v : ℕ) where
-  only : (before : List (List ℕ)) → shows k i v before ≡ true → Previous k i v before
-  unfolding shows
-  only [] h = absurd (false≢true h)
-  only (p ∷ ps) h = by (names k 3 1 i p) refl (only ps) h
-    where
-      by : (t : Bool) → names k 3 1 i p ≡ t → (shows k i v ps ≡ true → Previous k i v ps) → cond t (eqb (leOf 8 p 8) v) (not (writes k i p) && shows k i v ps) ≡ true → Previous k i v (p ∷ ps)
-      by true e ih g = record { between = []; previous = p; earlier = ps; cut = refl; pins = e; says = eqb-true (leOf 8 p 8) v g; quiet = tt }
-      by false e ih g =
-          let b = both-true (not (writes k i p)) (shows k i v ps) g in
-          let x = ih (b .1) in
-          record {
-            between = p ∷ x .between;
-            previous = x .previous;
-            earlier = x .earlier;
-            cut = ap (λ (l : List (List ℕ)). p ∷ l) (x .cut);
-            pins = x .pins;
-            says = x .says;
-            quiet = (e, not-true (writes k i p) (b .0), x .quiet);
-          }
-
-  all : (between : List (List ℕ)) (p : List ℕ) (earlier : List (List ℕ)) → names k 3 1 i p ≡ true → leOf 8 p 8 ≡ v → Between k i between → shows k i v (between ++ p ∷ earlier) ≡ true
-  unfolding shows
-  all [] p earlier n e q = rw (n, eq-eqb (leOf 8 p 8) v e)
-  all (x ∷ xs) p earlier n e q = rw (q .0, q .1) (all xs p earlier n e (q .2))
-
-pub all-exactly : AllExactly
-all-exactly k i v before = record {
-  only = only k i v before;
-  all = λ x. ap (shows k i v) (x .cut) ∙ all k i v (x .between) (x .previous) (x .earlier) (x .pins) (x .says) (x .quiet);
-}
 
 -- ---- the stretches
 

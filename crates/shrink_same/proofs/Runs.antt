@@ -23,8 +23,8 @@ use Rattle.banks.specs.State.{fresh}
 use Rattle.replay.specs.Replay.{played}
 use Rattle.walk.specs.Turn.{turnOf}
 use Rattle.travel.specs.Stretch.{names, pinsIn, keeps, undisturbed}
-use Rattle.shrink.specs.Shrink.{writes, shows, drops, kept}
-use Rattle.shrink.specs.How.{none, rule}
+use Rattle.shrink.specs.Shrink.{shows, drops, kept}
+use Rattle.shrink.specs.How.{writes, none, rule}
 use Rattle.shrink.proofs.Every.{kept-every}
 use Rattle.shrink.proofs.Sorts.{Rows, rows}
 use Rattle.shrink.proofs.Same.{agrees-first, same-kept}

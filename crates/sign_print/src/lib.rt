@@ -123,7 +123,12 @@ fn put_unturned(text: &mut [u8], at: usize, verdict: u64, size: u64, doubles: u6
     }
     let n = short(size, doubles);
     let numbers = [n, n];
-    put_form(text, at, b": open, # step~ short of a direction\n", &numbers)
+    put_form(
+        text,
+        at,
+        b": open, # step~ short of a direction\n",
+        &numbers,
+    )
 }
 
 fn put_verdict(text: &mut [u8], at: usize, verdict: u64, size: u64, doubles: u64) -> usize

@@ -1,45 +1,27 @@
 -- Sums of our own, of paper 02's requests.
 -- Assumes nothing.
 use mathlib.Core.Path.{_≡_}
-use mathlib.Core.Bool.{Bool, true, false}
-use Prim.Native.Nat.{ℕ}
+use mathlib.Core.Bool.{true, false}
 use mathlib.Core.List.{[], _∷_}
-use lib.IntN.{pos, negsuc}
-use Rattle.encoder.specs.Encoder.{counted}
+use lib.IntN.{pos, negsuc, _+ℤ_}
+use Rattle.encoder.specs.Count.{pattern, wrap}
+use Rattle.encoder.specs.Encoder.{marked}
 use Rattle.encoder.specs.Facts.{played}
-use Rattle.pwm.specs.declared.Pwm.{Pwm}
-use Rattle.pwm.specs.declared.Wave.{Wave}
-use Rattle.pwm.specs.Pwm.{onTicks}
+use Rattle.pwm.specs.Pwm.{nextOf}
 use Rattle.fold.specs.Turn.{refused}
-use Rattle.i2c.specs.declared.Phase.{Phase}
-use Rattle.i2c.specs.declared.Phase.the-variants.{Idle, RxIdle}
-use Rattle.i2c.specs.declared.I2c.{I2c}
-use Rattle.i2c.specs.I2c.{stateOf, goTurn, ran}
-use Rattle.sums.specs.Paper.{enabled}
-
--- a PWM channel with CS 1, MODE 1, MAX 3, CMP 7 and output 1, whose counter stands above MAX
-abbrev pub above : ℕ → Pwm
-above counter = let w : Wave = record { counter = counter; remainder = 0; output = true } in
-    record { registers = record { cnfg = 4; cs = 1; max = 3; cmp = 7 }; wave = w }
-
--- the I2C with ADDR 0 or 1, a CNTL, a state, what is recalled, and a slave's answer
-abbrev pub sequencer : ℕ → ℕ → Phase → Bool → ℕ → I2c
-sequencer addr cntl p a answer = record { addr = addr; cntl = cntl; phase = p; acknowledged = a; answer = answer; failure = 0 }
+use Rattle.i2c.specs.declared.Phase.the-variants.{TxIdle}
+use Rattle.i2c.specs.I2c.{onAddr, onCntl, onAnswer, ran, goTurn, fresh}
+use Rattle.sums.specs.Paper.{enabled, started}
 
 pub record OurSums : Type 0 where
   -- b: from 0 one step down sets DIR and UOVR, and the step up again UOERR
   pub down : played (0 ∷ 2 ∷ []) enabled .stat ≡ 5
   pub down-and-up : played (0 ∷ 2 ∷ 0 ∷ []) enabled .stat ≡ 20
   -- from -2,147,483,648 one step down sets DIR and SOVR, and the count is 2,147,483,647
-  pub signed-down : counted true 0 (record { count = negsuc 2_147_483_647; cnfg = 1; stat = 0; pins = 1; seen = true })
-      ≡ record { count = pos 2_147_483_647; cnfg = 1; stat = 9; pins = 0; seen = true }
-  -- e: one tick takes it from 5 to 0 in edition 1, to 6 in edition 2; there the next arrives at CMP, and at 65,535 it goes to 0
-  pub goes-to-0 : onTicks false 1 (above 5) .wave .counter ≡ 0
-  pub runs-on : (onTicks true 1 (above 5) .wave .counter ≡ 6) × (onTicks true 2 (above 5) .wave ≡ record { counter = 7; remainder = 0; output = false })
-  pub at-the-end : onTicks true 1 (above 65_535) .wave .counter ≡ 0
-  -- h: in RX idle, after a byte with ACK, STOP alone is refused by 16
-  pub no-stop : goTurn (sequencer 1 4 RxIdle true 3) ≡ refused 16
-  -- i: START and a byte to send: an address that nobody acknowledges ends idle, data that nobody does ends as before; both is the address
-  pub nobody : (stateOf (ran (sequencer 0 3 Idle false 2) .phase) ≡ 0) × (ran (sequencer 0 3 Idle false 2) .failure ≡ 1)
-  pub no-data : (stateOf (ran (sequencer 0 3 Idle false 1) .phase) ≡ 1) × (ran (sequencer 0 3 Idle false 1) .failure ≡ 2)
-  pub neither : ran (sequencer 0 3 Idle false 0) .failure ≡ 1
+  pub signed-down : (marked true (pattern (negsuc 2_147_483_647)) 0 ≡ 9) × (wrap (negsuc 2_147_483_647 +ℤ negsuc 0) ≡ pos 2_147_483_647)
+  -- e: with MAX 3 one step takes the counter from 5 to 0 in edition 1, to 6 in edition 2, and there from 65,535 to 0
+  pub above-max : let g = started 1 .registers in (nextOf false g 5 ≡ 0) × (nextOf true g 5 ≡ 6) × (nextOf true g 65_535 ≡ 0)
+  -- h: START and a byte received with ACK, and then STOP alone, which is refused by 16
+  pub no-stop : goTurn (onCntl 4 (ran (onCntl 11 (onAddr 1 fresh)))) ≡ refused 16
+  -- i: START and a byte to send: data that nobody acknowledges ends as before
+  pub no-data : (ran (onAnswer 1 (onCntl 3 fresh)) .phase ≡ TxIdle) × (ran (onAnswer 1 (onCntl 3 fresh)) .failure ≡ 2)

@@ -7,11 +7,7 @@ use lib.ListN.{length}
 use Rattle.decimal.specs.Digits.{digitsWithin, digitsOf}
 use Rattle.decimal.proofs.Back.{are-digits, some-digits, ends, digits-end}
 use Rattle.text.specs.Text.{space, refusedWord, appliedWord, line, linesOf, textOf}
-use Rattle.text.specs.Facts.{Printed, Told}
-
-pub printed : Printed
-unfolding digitsOf digitsWithin linesOf
-printed = refl
+use Rattle.text.specs.Facts.{Texts}
 
 -- ---- the last line: the words fall away, and each number ends at its space or newline
 
@@ -38,7 +34,7 @@ not-last v vs k l r q e =
     let h : _≡_ {A = ℕ} 0 (length (digitsOf v)) = ap length f in
     omega (arith, some-digits v)
 
-pub told : Told
+told : (vs ws : List ℕ) (k l r q : ℕ) → textOf vs k r ≡ textOf ws l q → (vs ≡ ws) × (k ≡ l) × (r ≡ q)
 told [] [] k l r q e = let h = stop-told k l r q e in (refl, h .0, h .1)
 told [] (w ∷ ws) k l r q e = absurd (not-last w ws k l r q e)
 told (v ∷ vs) [] k l r q e = absurd (not-last v vs l k q r (sym e))
@@ -48,3 +44,7 @@ told (v ∷ vs) (w ∷ ws) k l r q e =
     let f : v ≡ w = h .0 in
     let g : vs ≡ ws = i .0 in
     (cc, i .1, i .2)
+
+pub texts : Texts
+unfolding digitsOf digitsWithin linesOf
+texts = record { printed = refl; told = told }

@@ -24,7 +24,8 @@ use Rattle.wire.specs.declared.Decoded.the-variants.{Names, Refused}
 use Rattle.wire.proofs.Formed.{refused-by}
 use Rattle.wire.proofs.Laws.{length-records}
 use Rattle.writer.specs.declared.Written.{Written}
-use Rattle.writer.specs.Writer.{logOf, recordsIn, refusedBy, firstOf, writtenOf, outputOf}
+use Rattle.writer.specs.How.{recordsIn}
+use Rattle.writer.specs.Writer.{logOf, refusedBy, firstOf, writtenOf, outputOf}
 use Rattle.writer.proofs.Answers.{Accepted, accepted}
 use Rattle.printed.specs.declared.Printed.{Printed}
 use Rattle.printed.specs.Printed.{Prints, Printing}

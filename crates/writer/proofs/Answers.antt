@@ -16,7 +16,8 @@ use Rattle.fold.specs.Output.{over}
 use Rattle.decimal.specs.Put.{Put}
 use Rattle.decimal.proofs.Puts.{put-then}
 use Rattle.writer.specs.declared.Written.{Written}
-use Rattle.writer.specs.Writer.{trailer, logOf, recordsIn, refusedBy, firstOf, writtenOf, outputOf}
+use Rattle.writer.specs.Writer.{logOf, refusedBy, firstOf, writtenOf, outputOf}
+use Rattle.writer.specs.How.{recordsIn, trailer}
 
 module _ (edition : ℕ) (notes run : List ℕ) where
   abbrev all : List ℕ

@@ -1,7 +1,7 @@
 -- `judge::plainly` meets its contract: the readings passed are the same. Assumes nothing.
 use Prim.Native.Nat.{_-_, _≤_}
 use borrow.Author.Needs.{needs}
-use Rattle.judge.specs.Judge.{Agree}
+use Rattle.judge.specs.How.{Agree}
 use Rattle.judge.proofs.Plain.{all-agree, next-differs, next-agrees}
 use Rattle.judge.proofs.plainly.Statement.{statement}
 use Rattle.judge.proofs.plainly.Tie as tie

@@ -1,7 +1,6 @@
 -- `rate_print::say` meets its contract. Assumes nothing.
 use borrow.Author.Needs.{needs}
-use Rattle.printed.proofs.Prints.{put-counts}
-use Rattle.rate_print.proofs.Says.{pair-counts, says-pair, says-rate, says-nothing}
+use Rattle.rate_print.proofs.Says.{pair-counts, rate-counts, says-pair, says-rate, says-nothing}
 use Rattle.rate_print.proofs.say.Statement.{statement}
 use Rattle.rate_print.proofs.say.Tie as tie
 
@@ -17,5 +16,5 @@ say-spec =
     (λ c. search needs)
     (λ c. (search says-pair, search pair-counts))
     (λ c. search needs)
-    (λ c. (search says-rate, search put-counts))
+    (λ c. (search says-rate, search rate-counts))
     (λ c. (search says-nothing, search needs)))
