@@ -10,11 +10,9 @@ trap 'rm -rf "$work"' EXIT
 
 # The most instructions of the library for a record that is written. The goal is twice the second program's, which takes 31 to 34.
 written=42
-# The most times as many of the library as it takes to replay the same log, where a call does more with it than that: the goals, but that the sign of
-# nothing but pins does not meet its own yet, which is 1.50.
+# The most times as many of the library as it takes to replay the same log, where a call does more with it than that: the goals.
 judged=1.30
 signed=1.50
-signed_pins=1.63
 shrunk=2.50
 dumped=2.00
 streamed=1.30
@@ -22,32 +20,32 @@ streamed=1.30
 stream_call=7000
 
 # A row, the most instructions that the second program may take, the most that the library may, and the most times its replay's.
-limits="pins of one encoder|100|88
-pins of ten encoders|100|88
-pins, changing bank|100|88
-reads|70|62
-reads, changing bank|70|62
-a mix, waits to 20 ticks|100|97
-a mix, waits of any length|100|92
-a mix over both banks|110|104
-waits only, 20 PWM channels|950|940
-waits only, 40 PWM channels|1650|1630
-reads, judged|80|76|$judged
-a mix, waits to 20 ticks, judged|100|100|$judged
+limits="pins of one encoder|100|82
+pins of ten encoders|100|82
+pins, changing bank|100|82
+reads|70|52
+reads, changing bank|70|52
+a mix, waits to 20 ticks|100|89
+a mix, waits of any length|100|84
+a mix over both banks|110|96
+waits only, 20 PWM channels|950|930
+waits only, 40 PWM channels|1650|1610
+reads, judged|80|65|$judged
+a mix, waits to 20 ticks, judged|100|92|$judged
 the finder, a request|80|58
-pins, changing bank, dumped|150|171|$dumped
-a mix over both banks, dumped|130|153|$dumped
-pins, changing bank, signed|135|142|$signed_pins
-a mix over both banks, signed|125|137|$signed
+pins, changing bank, dumped|150|162|$dumped
+a mix over both banks, dumped|130|144|$dumped
+pins, changing bank, signed|135|116|$signed
+a mix over both banks, signed|125|124|$signed
 pins, changing bank, written|42|$written
 a mix over both banks, written|44|$written
-pins, a third as before, shrunk|115|108|$shrunk
-a mix over both banks, shrunk|130|132|$shrunk"
+pins, a third as before, shrunk|115|98|$shrunk
+a mix over both banks, shrunk|130|120|$shrunk"
 if has_stream; then
     limits+="
-pins, changing bank, streamed|100|112|$streamed
-reads, changing bank, streamed|70|78|$streamed
-a mix over both banks, streamed|110|133|$streamed
+pins, changing bank, streamed|100|97|$streamed
+reads, changing bank, streamed|70|66|$streamed
+a mix over both banks, streamed|110|111|$streamed
 a mix, a record a call|400|$stream_call"
 else
     echo 'bench: include/rivandoze.h has no rvz_stream_start, so there are no rows of the stream'

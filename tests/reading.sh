@@ -37,7 +37,7 @@ must 'reading: a name that is nowhere is seen' planted 'not found' \
 rows=check/rows.py
 must 'reading: a row with a wrong name is seen' planted 'not found: onPin$' 's/`onPins`/`onPin`/' docs/READING.md $rows
 must 'reading: a row whose definition is gone is seen' planted 'not found: place$' 's/^abbrev pub place :/abbrev pub moved :/' crates/encoder/specs/Encoder.antt $rows
-must 'reading: a row whose theorem is not proved is seen' planted 'Held is not proved' 's/^pub held : Held/pub held : Type 0/' crates/encoder/proofs/Proved.antt $rows
+must 'reading: a row whose theorem is not proved is seen' planted 'Encoders is not proved' 's/^pub encoders : Encoders/pub encoders : Type 0/' crates/encoder/proofs/Proved.antt $rows
 must 'reading: a row whose test is gone is seen' planted 'tests/program.sh has no seven bytes' 's/seven bytes/7 bytes/' tests/program.sh $rows
 must 'reading: a sentence without a row is seen' planted 'no sentence 01 pwm 6' '/^| 6 | writing CS/d' docs/READING.md $rows
 must 'reading: a public function without a contract is seen' planted 'fresh has no contract' '/^    ensures { λ r. ⌜ r ≡ fresh ⌝ }/d' crates/bank/src/lib.rt $rows
