@@ -15,7 +15,8 @@ use Rattle.fold.specs.Run.{concat}
 use Rattle.fold.specs.Output.{numberOf, stopOf}
 use Rattle.fold.specs.declared.Stop.{Stop}
 use Rattle.replay.specs.Replay.{replayOf}
-use Rattle.text.specs.Text.{stopText}
+use Rattle.form.specs.Form.{formText}
+use Rattle.text.specs.Text.{appliedWord, refusedWord}
 use Rattle.wire.specs.Trailer.{recordsOf}
 use Rattle.wire.proofs.Laws.{few-records}
 use Rattle.sign.specs.Sign.{stretchesOf, listing, pinsRecords, signOf, signedOf, signOutput}
@@ -25,6 +26,7 @@ use Rattle.sign.proofs.Listing.{pins-few}
 use Rattle.sign.proofs.Telling.{count-small}
 use Rattle.sign_print.specs.Said.{stretchText, stretchesText, endText, signText}
 use Rattle.sign_print.specs.How.{speltAt, There, Entries}
+use Rattle.sign_print.proofs.Words.{stop-line}
 use Rattle.sign_print.proofs.Spelt.{entry-there, one-more}
 use Rattle.sign_print.proofs.Room.{lines-long, stop-long}
 
@@ -80,14 +82,14 @@ module _ (log entries text₀ : List ℕ) (n : ℕ) (text : List ℕ) (end i : �
 
 -- ---- the last line
 
-module _ (log : List ℕ) (room : ℕ) (stop : Stop) (is : stop ≡ stopOf (replayOf log room)) (e : room ≡ 16_384) where
-  pub stop-said : (text text′ : List ℕ) (at r : ℕ) → Put text at (stopText (stop .applied) (stop .refused)) text′ r → Put text at (endText log) text′ r
+module _ (log : List ℕ) (stop : Stop) (is : stop ≡ stopOf (replayOf log 16_384)) where
+  pub stop-said : (text text′ : List ℕ) (at r : ℕ) → Put text at (formText (appliedWord ++ 35 ∷ 32 ∷ refusedWord ++ 35 ∷ 10 ∷ []) (stop .applied ∷ stop .refused ∷ [])) text′ r → Put text at (endText log) text′ r
   unfolding endText stopOf
-  stop-said text text′ at r x = rw (is, e) at x
+  stop-said text text′ at r x = rw is at (rw (stop-line (stop .applied) (stop .refused)) at x)
 
   pub stop-short : stop .applied < 2 ^ 64 → stop .refused < 2 ^ 64 → length (endText log) ≤ 58
   unfolding endText stopOf
-  stop-short p q = let t = replayOf log 16_384 in stop-long (t .applied) (numberOf (t .course)) (rw (is, e) at p) (rw (is, e) at q)
+  stop-short p q = let t = replayOf log 16_384 in stop-long (t .applied) (numberOf (t .course)) (rw is at p) (rw is at q)
 
 pub text-long : (log : List ℕ) → length (endText log) ≤ 58 → length (signText log) ≤ 298_920
 unfolding stretchesText

@@ -10,8 +10,10 @@ use lib.Dec.{ltb}
 use lib.IntN.{ℤ, pos, negsuc, natAbs, subℕ, _+ℤ_, _-ℤ_}
 use lib.ListN.{length, take, drop, getD, length-append}
 use lib.Seq.{take-suc, split-at, length-take-le}
-use borrow.Author.Tests.{lt-ltb, le-ltb, ltb-true, ltb-false}
+use borrow.Author.Tests.{lt-ltb, le-ltb, ne-eqb, ltb-true, ltb-false}
 use Rattle.decimal.specs.Digits.{digitsOf}
+use Rattle.decimal.proofs.Back.{digits-small}
+use Rattle.form.specs.Form.{signOf, pluralOf, formText}
 use Rattle.fold.specs.Run.{concat}
 use Rattle.fold.specs.Output.{over}
 use Rattle.shaft.specs.Shaft.{forward, backward, still}
@@ -25,12 +27,12 @@ use Rattle.sign.proofs.Listing.{length-concat, concat-more, entry-long}
 use Rattle.sign.proofs.Adding.{eight}
 use Rattle.sign.proofs.Settling.{few-verdicts, each-at}
 use Rattle.sign_print.specs.Said.{bankWord, encoderWord, recordsWord, toWord, comma, pinWord, stepWord, doubleWord, travelWord, plural, counted, signed, placeText, sumsText, travelText, verdictText, stretchText}
-use Rattle.sign_print.specs.How.{wholeOf, pluralText, formText, stretchForm, unturnedText, numberedText, spelt, speltAt, There}
+use Rattle.sign_print.specs.How.{wholeOf, stretchForm, numbersBy, numberedText, spelt, speltAt, There}
 
 -- ---- an entry's four numbers
 
 numbered : (v : Verdict) (size d : ℕ) → numberedText (verdictNumber v) size d ≡ verdictText v size d
-unfolding numberedText unturnedText
+unfolding numberedText
 numbered (settled forward) size d = refl
 numbered (settled backward) size d = refl
 numbered (settled still) size d = refl
@@ -81,20 +83,32 @@ module _ (m : ℕ) (few : m < 4096) where
   further (pos n) h = let e : (n % 18446744073709551616 + m) % 18446744073709551616 ≡ n + m = omega arith in ap wholeOf e ∙ up (n + m) (omega arith)
   further (negsuc n) h = difference _ m (suc n) (omega arith) (omega arith) (omega arith) (omega arith)
 
+-- the sign and the size are the number
+signed-is : (n : ℕ) → signOf n ++ digitsOf (natAbs (wholeOf n)) ≡ signed (wholeOf n)
+unfolding signOf wholeOf signed
+signed-is zero = digits-small 0 (omega arith)
+signed-is (suc n) = rw (ne-eqb (suc n) 0 (λ e. omega arith)) (by (ltb (suc n) 9223372036854775808))
+  where
+    by : (t : Bool) → cond t (43 ∷ []) (45 ∷ []) ++ digitsOf (natAbs (cond t (pos (suc n)) (negsuc (18446744073709551615 - suc n)))) ≡ signed (cond t (pos (suc n)) (negsuc (18446744073709551615 - suc n)))
+    by true = refl
+    by false = refl
+
 -- the form filled in
-grouped : (a b c d e f g h i j k l m n o p q r s t u : List ℕ) → a ++ (b ++ (c ++ (d ++ (e ++ (f ++ (g ++ (h ++ (i ++ (j ++ (k ++ (l ++ (i ++ (m ++ (n ++ (o ++ (i ++ (p ++ (q ++ (r ++ (s ++ (t ++ (g ++ (u ++ [])))))))))))))))))))))))
-    ≡ (a ++ b ++ c ++ d ++ e ++ f ++ g ++ h) ++ (i ++ (j ++ (k ++ l)) ++ (i ++ m ++ (n ++ o)) ++ i ++ (p ++ (q ++ r))) ++ (s ++ t ++ g ++ u)
-grouped a b c d e f g h i j k l m n o p q r s t u = simp (append-assoc, append-nil)
+grouped : (a b c d e f g h i j k l m n o p q r s t u v w x : List ℕ)
+    → a ++ (b ++ (c ++ (d ++ (e ++ (f ++ (g ++ (h ++ (i ++ (j ++ (k ++ (l ++ (i ++ (m ++ (n ++ (o ++ (p ++ (i ++ (q ++ (r ++ (s ++ (t ++ (u ++ (v ++ (g ++ (w ++ (x ++ []))))))))))))))))))))))))))
+    ≡ (a ++ b ++ c ++ d ++ e ++ f ++ g ++ h) ++ (i ++ (j ++ (k ++ l)) ++ (i ++ (m ++ n) ++ (o ++ p)) ++ i ++ (q ++ (r ++ s))) ++ (t ++ (u ++ v) ++ g ++ (w ++ x))
+grouped a b c d e f g h i j k l m n o p q r s t u v w x = simp (append-assoc, append-nil)
 
-form-is : (b i f l n s z d least most : ℕ) → formText stretchForm (b ∷ i ∷ f ∷ l ∷ n ∷ n ∷ s ∷ z ∷ d ∷ d ∷ least ∷ most ∷ [])
-    ≡ placeText b i f l ++ (comma ++ counted n pinWord ++ (comma ++ signed (wholeOf s) ++ plural stepWord z) ++ comma ++ counted d doubleWord) ++ (travelWord ++ signed (wholeOf least) ++ toWord ++ signed (wholeOf most))
+form-is : (b i f l n s d least most : ℕ) → formText stretchForm (numbersBy b i f l n s d least most)
+    ≡ placeText b i f l ++ (comma ++ counted n pinWord ++ (comma ++ signed (wholeOf s) ++ plural stepWord (natAbs (wholeOf s))) ++ comma ++ counted d doubleWord) ++ (travelWord ++ signed (wholeOf least) ++ toWord ++ signed (wholeOf most))
 unfolding formText placeText
-form-is b i f l n s z d least most =
-    grouped bankWord (digitsOf b) encoderWord (digitsOf i) recordsWord (digitsOf f) toWord (digitsOf l) comma (digitsOf n) pinWord (pluralText n) (signed (wholeOf s)) stepWord (pluralText z) (digitsOf d) doubleWord (pluralText d) travelWord (signed (wholeOf least)) (signed (wholeOf most))
+form-is b i f l n s d least most =
+    let z : ℕ → List ℕ = λ (k : ℕ). digitsOf (natAbs (wholeOf k)) in
+    grouped bankWord (digitsOf b) encoderWord (digitsOf i) recordsWord (digitsOf f) toWord (digitsOf l) comma (digitsOf n) pinWord (pluralOf n) (signOf s) (z s) stepWord (pluralOf (natAbs (wholeOf s))) (digitsOf d) doubleWord (pluralOf d) travelWord (signOf least) (z least) (signOf most) (z most)
+    ∙ rw (signed-is s, signed-is least, signed-is most)
 
-spelt-by : (n x b i v f l m d s : ℕ) → n % 256 ≡ b → n / 256 % 256 ≡ i → n / 65536 % 256 ≡ v → n / 4294967296 ≡ f → x % 4294967296 ≡ l → x / 4294967296 ≡ m
-    → spelt n x s d ≡ formText stretchForm (b ∷ i ∷ f ∷ l ∷ m ∷ m ∷ s ∷ natAbs (wholeOf s) ∷ d ∷ d ∷ (s + 18446744073709551616 - 2 * d) % 18446744073709551616 ∷ (s + 2 * d) % 18446744073709551616 ∷ [])
-    ++ line (numberedText v (natAbs (wholeOf s)) d)
+spelt-by : (n x b i v f l m d s : ℕ) → n % 256 ≡ b → n / 256 % 256 ≡ i → n / 65536 % 4 ≡ v → n / 4294967296 ≡ f → x % 4294967296 ≡ l → x / 4294967296 ≡ m
+    → spelt n x s d ≡ formText stretchForm (numbersBy b i f l m s d ((s + 18446744073709551616 - 2 * d) % 18446744073709551616) ((s + 2 * d) % 18446744073709551616)) ++ line (numberedText v (natAbs (wholeOf s)) d)
 unfolding spelt
 spelt-by n x b i v f l m d s eb ei ev ef el em = rw (eb, ei, ev, ef, el, em)
 
@@ -115,7 +129,7 @@ module _ (e : Entry) (small : Fine e) where
       let z = e .steps in
       let d = e .doubles in
       spelt-by names span (e .bank) (e .encoder) (verdictNumber verdict) (e .first) (e .last) (e .number) d (complement z) (omega arith) (omega arith) (omega arith) (omega arith) (omega arith) (omega arith)
-      ∙ ap (λ (l : List ℕ). l ++ line (numberedText (verdictNumber verdict) (natAbs (wholeOf (complement z))) d)) (form-is (e .bank) (e .encoder) (e .first) (e .last) (e .number) (complement z) (natAbs (wholeOf (complement z))) d _ _)
+      ∙ ap (λ (l : List ℕ). l ++ line (numberedText (verdictNumber verdict) (natAbs (wholeOf (complement z))) d)) (form-is (e .bank) (e .encoder) (e .first) (e .last) (e .number) (complement z) d _ _)
       ∙ rw (whole z (small .steps), less (2 * d) (omega (arith, small .doubles)) z (small .steps), further (2 * d) (omega (arith, small .doubles)) z (small .steps), numbered verdict (natAbs z) d)
       (sym (append-assoc (placeText (e .bank) (e .encoder) (e .first) (e .last) ++ sumsText (e .number) z d ++ travelText z d) (verdictText verdict (natAbs z) d) (10 ∷ [])))
 

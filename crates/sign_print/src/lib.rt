@@ -1,21 +1,24 @@
 // What `rvz sign` prints: each stretch that `rvz_sign` finds on a line of words, then what the log's replay says. The text is built in one
 // buffer and written at once.
-use bits::number;
+use fold::Stop;
 use libc::STDIN_FILENO;
 use std::num::wrapping_add_u64;
 use std::num::wrapping_sub_u64;
 ghost use mathlib.Core.Path.{_≡_};
 ghost use Prim.Native.Nat.{_+_, _-_, _*_, _<_, _≤_};
 ghost use lib.IntN.{natAbs};
-ghost use lib.ListN.{length, getD};
+ghost use lib.ListN.{length};
 ghost use Rattle.io.specs.Counts.{Counts};
 ghost use Rattle.decimal.specs.Put.{Put};
+ghost use Rattle.fold.specs.Output.{stopOf};
+ghost use Rattle.replay.specs.Replay.{replayOf};
 ghost use Rattle.text.specs.Text.{line};
-ghost use Rattle.sign_print.specs.Said.{signed, stretchesText, endText, signText};
-ghost use Rattle.sign_print.specs.How.{wholeOf, signPart, pluralText, partOf, takenBy, formText, unturnedText, numberedText, numbersOf, spelt, speltAt, There, Entries};
+ghost use Rattle.sign_print.specs.Said.{stretchesText, endText, signText};
+ghost use Rattle.sign_print.specs.How.{wholeOf, wordsAt, numberedText, numbersOf, spelt, speltAt, There, Entries};
 
-// ---- numbers, and two's complement ones
+// ---- numbers
 
+// The size of a two's complement number.
 fn size(n: u64) -> u64
     ensures { λ r. ⌜ r ≡ natAbs (wholeOf n) ⌝ }
 {
@@ -36,120 +39,38 @@ fn short(size: u64, doubles: u64) -> u64
     2 * doubles + 1 - size
 }
 
-// ---- a form with numbers in its places: # is the next one, ^ the next one with its sign, and ~ an s unless the next one is 1
-
-fn put_sign(text: &mut [u8], at: usize, n: u64) -> usize
-    ensures { λ r. ⌜ Put (now (text .entry)) at (signPart n) (now (text .exit)) r ⌝ }
-{
-    if n == 0 {
-        return at;
-    }
-    if n < 9223372036854775808 {
-        return decimal::put_byte(text, at, b'+');
-    }
-    decimal::put_byte(text, at, b'-')
-}
-
-fn put_signed(text: &mut [u8], at: usize, n: u64) -> usize
-    ensures { λ r. ⌜ Put (now (text .entry)) at (signed (wholeOf n)) (now (text .exit)) r ⌝ }
-{
-    let end = put_sign(text, at, n);
-    decimal::put(text, end, size(n))
-}
-
-fn put_plural(text: &mut [u8], at: usize, n: u64) -> usize
-    ensures { λ r. ⌜ Put (now (text .entry)) at (pluralText n) (now (text .exit)) r ⌝ }
-{
-    if n == 1 {
-        return at;
-    }
-    decimal::put_byte(text, at, b's')
-}
-
-fn put_part(text: &mut [u8], at: usize, b: u8, n: u64) -> usize
-    ensures { λ r. ⌜ Put (now (text .entry)) at (partOf b n) (now (text .exit)) r ⌝ }
-{
-    if b == b'#' {
-        return decimal::put(text, at, n);
-    }
-    if b == b'^' {
-        return put_signed(text, at, n);
-    }
-    if b == b'~' {
-        return put_plural(text, at, n);
-    }
-    decimal::put_byte(text, at, b)
-}
-
-fn taken(b: u8) -> usize
-    ensures { λ r. ⌜ (r ≡ takenBy b) × (r ≤ 1) ⌝ }
-{
-    number((b == b'#') | ((b == b'^') | (b == b'~'))) as usize
-}
-
-fn number_at(numbers: &[u64], k: usize) -> u64
-    ensures { λ r. ⌜ r ≡ getD (now (numbers .entry)) k 0 ⌝ }
-{
-    if k < numbers.len() {
-        return numbers[k];
-    }
-    0
-}
-
-fn put_form(text: &mut [u8], at: usize, form: &[u8], numbers: &[u64]) -> usize
-    ensures { λ r. ⌜ Put (now (text .entry)) at (formText (now (form .entry)) (now (numbers .entry))) (now (text .exit)) r ⌝ }
-{
-    let mut end = at;
-    let mut k: usize = 0;
-    let mut i: usize = 0;
-    while i < form.len() {
-        let b = form[i];
-        end = put_part(text, end, b, number_at(numbers, k));
-        k += taken(b);
-        i += 1;
-    }
-    end
-}
-
 // ---- a stretch
 
-// Still, or open.
-fn put_unturned(text: &mut [u8], at: usize, verdict: u64, size: u64, doubles: u64) -> usize
-    requires { ⌜ doubles < 4096 ⌝ }
-    ensures { λ r. ⌜ Put (now (text .entry)) at (line (unturnedText verdict size doubles)) (now (text .exit)) r ⌝ }
+// Where the words of each verdict start, in the order of their numbers: open, forward, backward, still.
+const WORDS: [usize; 5] = [0, 37, 47, 58, 66];
+
+fn words_at(verdict: usize) -> usize
+    requires { ⌜ verdict < 5 ⌝ }
+    ensures { λ r. ⌜ r ≡ wordsAt verdict ⌝ }
 {
-    if verdict == 3 {
-        return text::put_word(text, at, b": still\n");
-    }
-    let n = short(size, doubles);
-    let numbers = [n, n];
-    put_form(
-        text,
-        at,
-        b": open, # step~ short of a direction\n",
-        &numbers,
-    )
+    WORDS[verdict]
 }
 
 fn put_verdict(text: &mut [u8], at: usize, verdict: u64, size: u64, doubles: u64) -> usize
-    requires { ⌜ doubles < 4096 ⌝ }
+    requires { ⌜ (verdict < 4) × (doubles < 4096) ⌝ }
     ensures { λ r. ⌜ Put (now (text .entry)) at (line (numberedText verdict size doubles)) (now (text .exit)) r ⌝ }
 {
-    if verdict == 1 {
-        return text::put_word(text, at, b": forward\n");
-    }
-    if verdict == 2 {
-        return text::put_word(text, at, b": backward\n");
-    }
-    put_unturned(text, at, verdict, size, doubles)
+    let words: &[u8] = b": open, # step~ short of a direction\n: forward\n: backward\n: still\n";
+    let from = words_at(verdict as usize);
+    let to = words_at((verdict as usize) + 1);
+    let n = short(size, doubles);
+    let numbers = [n, n];
+    form::put_form(text, at, &words[from..to], &numbers)
 }
 
-fn line_numbers(names: u64, span: u64, steps: u64, doubles: u64) -> [u64; 12]
+fn line_numbers(names: u64, span: u64, steps: u64, doubles: u64) -> [u64; 15]
     requires { ⌜ doubles < 4096 ⌝ }
     ensures { λ r. ⌜ r ≡ numbersOf names span steps doubles ⌝ }
 {
     let pins = span / 4294967296;
-    let twice = 2 * doubles;
+    let moved = size(steps);
+    let least = wrapping_sub_u64(steps, 2 * doubles);
+    let most = wrapping_add_u64(steps, 2 * doubles);
     [
         names % 256,
         names / 256 % 256,
@@ -158,11 +79,14 @@ fn line_numbers(names: u64, span: u64, steps: u64, doubles: u64) -> [u64; 12]
         pins,
         pins,
         steps,
-        size(steps),
+        moved,
+        moved,
         doubles,
         doubles,
-        wrapping_sub_u64(steps, twice),
-        wrapping_add_u64(steps, twice),
+        least,
+        size(least),
+        most,
+        size(most),
     ]
 }
 
@@ -172,13 +96,13 @@ fn put_stretch(text: &mut [u8], at: usize, names: u64, span: u64, steps: u64, do
     ensures { λ r. ⌜ Put (now (text .entry)) at (spelt names span steps doubles) (now (text .exit)) r ⌝ }
 {
     let numbers = line_numbers(names, span, steps, doubles);
-    let end = put_form(
+    let end = form::put_form(
         text,
         at,
-        b"bank # encoder #: records # to #, # pin~, ^ step~, # double change~, travel ^ to ^",
+        b"bank # encoder #: records # to #, # pin~, ^# step~, # double change~, travel ^# to ^#",
         &numbers,
     );
-    put_verdict(text, end, names / 65536 % 256, size(steps), doubles)
+    put_verdict(text, end, names / 65536 % 4, size(steps), doubles)
 }
 
 // The same of the entry at a place.
@@ -210,20 +134,20 @@ fn put_stretches(text: &mut [u8], log: &[u8], entries: &[u8], n: usize) -> usize
 }
 
 // What the replay says, with room for each reading.
+fn replayed(log: &[u8]) -> Stop
+    ensures { λ r. ⌜ r ≡ stopOf (replayOf (now (log .entry)) 16_384) ⌝ }
+{
+    let mut readings = [0u8; 16384];
+    replay::replay(log, &mut readings)
+}
+
 fn put_stop(text: &mut [u8], at: usize, log: &[u8]) -> usize
     ensures { λ r. ⌜ Put (now (text .entry)) at (endText (now (log .entry))) (now (text .exit)) r ⌝ }
     ensures { λ _. ⌜ length (endText (now (log .entry))) ≤ 58 ⌝ }
 {
-    let mut readings = [0u8; 16384];
-    let stop = replay::replay(log, &mut readings);
-    text::put_pair(
-        text,
-        at,
-        b"applied ",
-        stop.applied as u64,
-        b" refused ",
-        stop.refused as u64,
-    )
+    let stop = replayed(log);
+    let numbers = [stop.applied as u64, stop.refused as u64];
+    form::put_form(text, at, b"applied # refused #\n", &numbers)
 }
 
 // 65,504 bytes have room for an entry of each record that a log can have, so that 6 is not given. Their lines, of at most 146 bytes, and the

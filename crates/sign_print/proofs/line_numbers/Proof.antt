@@ -8,6 +8,9 @@ pub line-numbers-spec : {M : Type 1} → statement M
 line-numbers-spec =
     tie.close
     (tie.spec
+    (λ c κs. search needs)
+    (λ c. search needs)
+    (λ c κs. search needs)
     (λ c. search needs)
     (λ c κs. search needs)
     (λ c κs. search needs)

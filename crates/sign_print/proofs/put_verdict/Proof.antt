@@ -1,5 +1,5 @@
 -- `sign_print::put_verdict` meets its contract. Assumes nothing.
-use Rattle.sign_print.proofs.Words.{is-forward, is-backward, goes-nowhere}
+use Rattle.sign_print.proofs.Words.{words-start, words-end, verdict-put}
 use borrow.Author.Needs.{needs}
 use Rattle.sign_print.proofs.put_verdict.Statement.{statement}
 use Rattle.sign_print.proofs.put_verdict.Tie as tie
@@ -11,11 +11,12 @@ put-verdict-spec =
     (λ c. search needs)
     (λ c κs. search needs)
     (λ c. search needs)
-    (λ c. search is-forward)
+    (λ c κs. search needs)
+    (λ c κs. search needs)
+    (λ c. search words-start)
+    (λ c. search words-start)
+    (λ c. search words-end)
     (λ c. search needs)
     (λ c κs. search needs)
     (λ c. search needs)
-    (λ c. search is-backward)
-    (λ c κs. search needs)
-    (λ c. search needs)
-    (λ c. search goes-nowhere))
+    (λ c. search verdict-put))

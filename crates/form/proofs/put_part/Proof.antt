@@ -1,8 +1,8 @@
--- `sign_print::put_part` meets its contract. Assumes nothing.
-use Rattle.sign_print.proofs.Words.{part-number, part-signed, part-plural, part-itself}
+-- `form::put_part` meets its contract. Assumes nothing.
+use Rattle.form.proofs.Forms.{part-number, part-sign, part-plural, part-itself}
 use borrow.Author.Needs.{needs}
-use Rattle.sign_print.proofs.put_part.Statement.{statement}
-use Rattle.sign_print.proofs.put_part.Tie as tie
+use Rattle.form.proofs.put_part.Statement.{statement}
+use Rattle.form.proofs.put_part.Tie as tie
 
 pub put-part-spec : {M : Type 1} → statement M
 put-part-spec =
@@ -13,7 +13,7 @@ put-part-spec =
     (λ c. search part-number)
     (λ c κs. search needs)
     (λ c. search needs)
-    (λ c. search part-signed)
+    (λ c. search part-sign)
     (λ c κs. search needs)
     (λ c. search needs)
     (λ c. search part-plural)

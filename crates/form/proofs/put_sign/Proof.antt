@@ -1,8 +1,8 @@
--- `sign_print::put_sign` meets its contract. Assumes nothing.
-use Rattle.sign_print.proofs.Words.{no-sign, plus, minus}
+-- `form::put_sign` meets its contract. Assumes nothing.
+use Rattle.form.proofs.Forms.{no-sign, plus, minus}
 use borrow.Author.Needs.{needs}
-use Rattle.sign_print.proofs.put_sign.Statement.{statement}
-use Rattle.sign_print.proofs.put_sign.Tie as tie
+use Rattle.form.proofs.put_sign.Statement.{statement}
+use Rattle.form.proofs.put_sign.Tie as tie
 
 pub put-sign-spec : {M : Type 1} → statement M
 put-sign-spec =

@@ -1,11 +1,11 @@
--- `sign_print::put_form` meets its contract: what the bytes passed make stands in the text. Assumes nothing.
+-- `form::put_form` meets its contract: what the bytes passed make stands in the text. Assumes nothing.
 use Prim.Native.Nat.{_-_}
 use native.Mathlib.Omega.{arith}
 use lib.ListN.{length}
-use Rattle.sign_print.proofs.Words.{Forming, begins, next, same-long, all-formed}
+use Rattle.form.proofs.Forms.{Forming, begins, next, same-long, all-formed}
 use borrow.Author.Needs.{needs}
-use Rattle.sign_print.proofs.put_form.Statement.{statement}
-use Rattle.sign_print.proofs.put_form.Tie as tie
+use Rattle.form.proofs.put_form.Statement.{statement}
+use Rattle.form.proofs.put_form.Tie as tie
 
 abbrev Inv-loop : tie.InvT-loop
 Inv-loop text₀ at form numbers end₀ k₀ i₀ text end k i = Forming text₀ at form numbers text end k i
