@@ -12,6 +12,8 @@ import pathlib
 import re
 import sys
 
+# What is beyond the papers: the crate and its call.
+OURS = "sign"
 WORD = re.compile(r"[^\s(){};,λ∷\[\]]+")
 
 
@@ -162,7 +164,7 @@ class Project:
 
     # ---- what the list starts from
 
-    def contracts(self):
+    def contracts(self, ours):
         found = 0
         for path in sorted((self.root / "crates").glob("*/src/**/*.rt")):
             text = path.read_text()
@@ -172,14 +174,17 @@ class Project:
             for line in re.findall(r"^ghost (use .*);$", text, re.M):
                 ghost.use(line)
             for call in re.finditer(r'^pub extern "C" fn (\w+).*?^\{', text, re.M | re.S):
-                found += 1
-                self.words(ghost, call[0], f"contract of {call[1]}")
+                if (call[1] == "rvz_" + OURS) is ours:
+                    found += 1
+                    self.words(ghost, call[0], f"contract of {call[1]}")
         return found
 
-    def theorems(self):
+    def theorems(self, ours):
         found = 0
         for path in sorted((self.root / "crates").glob("*/proofs/*.antt")):
             crate = path.relative_to(self.root / "crates").parts[0]
+            if (crate == OURS) is not ours:
+                continue
             file = File(path, crate)
             text = path.read_text()
             named = r"" if path.name == "Proved.antt" else r" [A-Z]\w*$"
@@ -193,26 +198,31 @@ class Project:
         return found
 
 
-def main():
-    project = Project(pathlib.Path("."))
-    calls, theorems = project.contracts(), project.theorems()
+def counted(project):
+    """The lines of each file that count, of what has been reached."""
     lines = {}
     for (path, _), (file, numbers, _) in project.reached.items():
         lines.setdefault(path, set()).update(numbers)
-    total = 0
+    return {path: sum(counts(line) for k, line in enumerate(pathlib.Path(path).read_text().split("\n")) if k in lines[path]) for path in lines}
+
+
+def main():
+    project = Project(pathlib.Path("."))
+    calls, theorems = project.contracts(False), project.theorems(False)
+    papers = sum(counted(project).values())
+    more, beside = project.contracts(True), project.theorems(True)
+    lines = counted(project)
     for path in sorted(lines):
-        text = pathlib.Path(path).read_text().split("\n")
-        count = sum(counts(text[k]) for k in lines[path])
-        total += count
         names = sorted(name for (where, name) in project.reached if where == path)
-        print(f"{count:4} {path}: {' '.join(names)}")
-    print(f"{total:4} lines, for {calls} exported calls and {theorems} theorems")
+        print(f"{lines[path]:4} {path}: {' '.join(names)}")
+    print(f"{papers:4} lines, for {calls} exported calls and {theorems} theorems of papers 01 and 02")
+    print(f"{sum(lines.values()) - papers:4} more, for the call and {beside} theorems of the {OURS}, which no paper asks for")
     how = [(path, name, whence) for (path, name), (_, _, whence) in project.reached.items() if path.endswith("How.antt")]
     for path, name, whence in how:
         print(f"rests on how the code gets there: {path}: {name}, from {whence}")
     for name in sorted(set(project.missing)):
         print(f"not found: {name}")
-    return 1 if how or project.missing or not calls or not theorems else 0
+    return 0 if calls and theorems and more and beside and not how and not project.missing else 1
 
 
 if __name__ == "__main__":

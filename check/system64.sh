@@ -12,13 +12,17 @@ need_system64() {
     fi
     need qemu-system-x86_64 qemu-system-x86 --no-install-recommends
     need cpio cpio
-    # Parts that were unpacked before callgrind was among them are unpacked anew.
-    [ -e "$parts/kernel" ] && [ -e "$parts/tree/usr/libexec/valgrind/callgrind-amd64-linux" ] && return
     dpkg --add-architecture amd64
-    { unpack_parts || { apt-get update -qq && unpack_parts; }; } >"$work/out" 2>&1 && return
+    alone fetch_parts >"$work/out" 2>&1 && return
     echo "FAIL $0: the parts of a system for x86-64 cannot be fetched"
     tail -n 20 "$work/out" | sed 's/^/    /'
     exit 1
+}
+
+# Parts that were unpacked before callgrind was among them are unpacked anew.
+fetch_parts() {
+    [ -e "$parts/kernel" ] && [ -e "$parts/tree/usr/libexec/valgrind/callgrind-amd64-linux" ] && return
+    unpack_parts || { apt-get update -qq && unpack_parts; }
 }
 
 # kernel64: the package of the kernel at hand, which one without a version names.

@@ -1,8 +1,16 @@
 # For the scripts of tests/, which source it: what is compiled by Rattle is for x86-64, on any machine.
+# alone COMMAND..: the scripts run beside each other, and no other one does what is done by this meanwhile.
+alone() {
+    mkdir -p target
+    (flock 9 && "$@") 9>>target/alone
+}
+
+apt_install() { apt-get update -qq >&2 && apt-get install -y -qq "$@" >/dev/null 2>&1; }
+
 # need COMMAND PACKAGE OPTION..: installs the Debian package where the command is missing.
 need() {
     command -v "$1" >/dev/null && return
-    apt-get update -qq >&2 && apt-get install -y -qq "${@:2}" >/dev/null 2>&1
+    alone apt_install "${@:2}"
     command -v "$1" >/dev/null && return
     echo "FAIL $0: $1 is missing, and $2 cannot be installed"
     exit 1
@@ -29,7 +37,8 @@ run64() { "${runner[@]}" "$@"; }
 need_rust64() {
     [ "$(uname -m)" = x86_64 ] && return
     [ -x /usr/bin/rustc ] && dpkg -s libstd-rust-dev:amd64 >/dev/null 2>&1 && return
-    { dpkg --add-architecture amd64 && apt-get update -qq && apt-get install -y -qq rustc libstd-rust-dev:amd64; } >/dev/null 2>&1
+    dpkg --add-architecture amd64
+    alone apt_install rustc libstd-rust-dev:amd64
     dpkg -s libstd-rust-dev:amd64 >/dev/null 2>&1 && return
     echo "FAIL $0: libstd-rust-dev:amd64 cannot be installed"
     exit 1
@@ -57,7 +66,9 @@ must() {
 }
 
 # The library for C and the program, unless both are newer than every source.
-rt_builds() {
+rt_builds() { alone build_by_rt; }
+
+build_by_rt() {
     local library=target/staticlib/librivandoze.a program=target/bin/rvz
     if [ -e "$library" ] && [ -e "$program" ] &&
         [ -z "$(find crates crates.txt \( -newer "$library" -o -newer "$program" \) -print -quit)" ]; then
@@ -68,7 +79,7 @@ rt_builds() {
 
 # The second program, with all that compares by it.
 second_builds() {
-    cargo build --release --offline --manifest-path check/Cargo.toml --target-dir target/check
+    alone cargo build --release --offline --manifest-path check/Cargo.toml --target-dir target/check
 }
 
 # What a program is linked with so that the library touches what it may not, as WRONG says.

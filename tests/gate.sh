@@ -77,11 +77,11 @@ printf '#!/bin/sh\nexit 0\n' >tests/planted.sh
 expect 1 "$red" 'a test script that runs no test'
 
 plant
-printf '#!/bin/sh\nsleep 1\necho ok beside\n' >tests/archive.sh
-chmod +x tests/archive.sh
-expect 0 '^5 passed, 0 failed$' 'what runs beside the other tests is waited for and counted'
+printf '#!/bin/sh\nsleep 2\necho ok slow\n' >tests/slow.sh
+chmod +x tests/slow.sh
+expect 0 '^5 passed, 0 failed$' 'a slow test beside others is waited for and counted'
 
 plant
-printf '#!/bin/sh\nsleep 1\necho ok beside\nexit 3\n' >tests/archive.sh
-chmod +x tests/archive.sh
-expect 1 "$red" 'what ends badly beside the other tests'
+printf '#!/bin/sh\nsleep 1\necho ok slow\nexit 3\n' >tests/slow.sh
+chmod +x tests/slow.sh
+expect 1 "$red" 'a test beside others that ends badly'

@@ -17,9 +17,9 @@ use Rattle.vcd.specs.declared.Step.{Step}
 use Rattle.vcd.specs.declared.Step.the-variants.{Wait, Pins}
 use Rattle.vcd.specs.declared.Line.{Line}
 use Rattle.vcd.specs.Lines.{textOf}
-use Rattle.vcd.specs.Dump.{declared, startOf, headerOf, changesOf, timed, bodyFrom, dumpOf, GoodStep, Good}
+use Rattle.vcd.specs.Dump.{declared, startOf, headerOf, changesOf, timed, bodyFrom, dumpOf, Good}
 use Rattle.vcd.proofs.Starts.{There, there-set, there-start, long-start}
-use Rattle.vcd.proofs.Bound.{text-append}
+use Rattle.vcd.proofs.Bound.{text-append, in-time}
 use Rattle.dump.specs.Dump.{seenOf}
 use Rattle.dump.specs.How.{stepsIn, Ready}
 
@@ -48,12 +48,13 @@ module _ (log : List ℕ) (start n : ℕ) where
   pub record Marking (pins : List ℕ) (i : ℕ) : Type 0 where
     pub within : i ≤ n
     pub long : length pins ≡ 20
-    pub good : Good (restOf i)
+    pub time : ℕ
+    pub good : Good (2 ^ 48) time (restOf i)
     pub left : startOf (stepsIn log start n) ≡ foldl declared pins (restOf i)
 
   module _ (ready : Ready log start n) where
     pub marking : Marking (replicate 20 5) 0
-    marking = record { within = omega arith; long = refl; good = subst Good (sym all-rest) (ready .good); left = ap (foldl declared (replicate 20 5)) (sym all-rest) }
+    marking = record { within = omega arith; long = refl; time = 0; good = subst (Good (2 ^ 48) 0) (sym all-rest) (ready .good); left = ap (foldl declared (replicate 20 5)) (sym all-rest) }
 
     pub a-record : (i : ℕ) → i < n → start + 16 * i + 16 ≤ length log
     a-record i h = omega (arith, ready .within)
@@ -63,21 +64,22 @@ module _ (log : List ℕ) (start n : ℕ) where
     all-marked h = sym (m .left ∙ ap (foldl declared pins) (rest-end i h))
 
     module _ (s : Step) (h : i < n) (is : s ≡ seenOf (take 16 (drop (start + 16 * i) log))) where
-      goods : Good (s ∷ restOf (i + 1))
-      goods = subst Good (rest-step i s h is) (m .good)
+      goods : (x : Step) → s ≡ x → Good (2 ^ 48) (m .time) (x ∷ restOf (i + 1))
+      goods x q = subst (Good (2 ^ 48) (m .time)) (rest-step i s h is ∙ ap (λ (y : Step). y ∷ restOf (i + 1)) q) (m .good)
 
       pub marks-wait : (t : ℕ) → s ≡ Wait t → Marking pins (i + 1)
       unfolding declared
       marks-wait t e = record {
         within = omega arith;
         long = m .long;
-        good = goods .1;
+        time = m .time + 25 * t;
+        good = goods (Wait t) e;
         left = m .left ∙ ap (foldl declared pins) (rest-step i s h is ∙ ap (λ (x : Step). x ∷ restOf (i + 1)) e);
       }
 
       module _ (e v : ℕ) (q : s ≡ Pins e v) where
         pub pins-encoder : e < 20
-        pins-encoder = subst GoodStep q (goods .0) .0
+        pins-encoder = goods (Pins e v) q .0
 
         pub pins-in-row : e < length pins
         pins-in-row = omega (arith, pins-encoder, m .long)
@@ -87,7 +89,8 @@ module _ (log : List ℕ) (start n : ℕ) where
         marks-pins = record {
           within = omega arith;
           long = length-set pins e 4 ∙ m .long;
-          good = goods .1;
+          time = m .time;
+          good = goods (Pins e v) q .2;
           left = m .left ∙ ap (foldl declared pins) (rest-step i s h is ∙ ap (λ (x : Step). x ∷ restOf (i + 1)) q);
         }
 
@@ -97,10 +100,8 @@ module _ (log : List ℕ) (start n : ℕ) where
     pub lines : List Line
     pub within : i ≤ n
     pub long : length pins ≡ 20
-    pub good : Good (restOf i)
+    pub good : Good (2 ^ 48) time (restOf i)
     pub there : There pins (restOf i)
-    pub few : n ≤ 2047
-    pub soon : time ≤ 107374182400 * i
     pub wrote : Put out₀ from (textOf lines) out at
     pub left : bodyFrom false 0 unknown (stepsIn log start n) ≡ lines ++ bodyFrom told time pins (restOf i)
 
@@ -111,10 +112,8 @@ module _ (log : List ℕ) (start n : ℕ) where
       lines = [];
       within = omega arith;
       long = ap length e ∙ long-start (stepsIn log start n);
-      good = subst Good (sym all-rest) (ready .good);
-      there = rw (e, all-rest) (there-start (stepsIn log start n) (ready .good));
-      few = ready .few;
-      soon = omega arith;
+      good = subst (Good (2 ^ 48) 0) (sym all-rest) (ready .good);
+      there = rw (e, all-rest) (there-start (stepsIn log start n) (2 ^ 48) 0 (ready .good));
       wrote = put-nothing out₀ from;
       left = ap (bodyFrom false 0 unknown) (sym all-rest);
     }
@@ -128,18 +127,18 @@ module _ (log : List ℕ) (start n : ℕ) where
       ends h = subst (λ (ls : List Line). Put out₀ from (textOf ls) out at) (sym (g .left ∙ ap (λ (ss : List Step). g .lines ++ bodyFrom told time pins ss) (rest-end i h) ∙ append-nil (g .lines))) (g .wrote)
 
       module _ (s : Step) (h : i < n) (is : s ≡ seenOf (take 16 (drop (start + 16 * i) log))) where
-        good-now : Good (s ∷ restOf (i + 1))
-        good-now = subst Good (rest-step i s h is) (g .good)
+        good-now : (x : Step) → s ≡ x → Good (2 ^ 48) time (x ∷ restOf (i + 1))
+        good-now x q = subst (Good (2 ^ 48) time) (rest-step i s h is ∙ ap (λ (y : Step). y ∷ restOf (i + 1)) q) (g .good)
 
         module _ (t : ℕ) (e : s ≡ Wait t) where
-          pub wait-small : t < 4294967296
-          wait-small = subst GoodStep e (good-now .0)
+          wait-small : time + 25 * t < 2 ^ 48
+          wait-small = in-time (restOf (i + 1)) (2 ^ 48) (time + 25 * t) (good-now (Wait t) e)
 
           pub ticks-fit : (a : ℕ) → a ≤ 25 → Fits w64 (a * t)
           ticks-fit a l = record { fits = omega (arith, wait-small, mul-le-mul-right t l) }
 
           pub time-fits : (a : ℕ) → a ≤ 25 → Fits w64 (time + a * t)
-          time-fits a l = record { fits = omega (arith, wait-small, g .soon, g .few, mul-le-mul-right t l) }
+          time-fits a l = record { fits = omega (arith, wait-small, mul-le-mul-right t l) }
 
           pub goes-wait : Going unknown out₀ from out pins (time + 25 * t) (told && eqb t 0) at (i + 1)
           unfolding bodyFrom
@@ -149,20 +148,18 @@ module _ (log : List ℕ) (start n : ℕ) where
                 lines = g .lines;
                 within = omega arith;
                 long = g .long;
-                good = good-now .1;
+                good = good-now (Wait t) e;
                 there = subst (There pins) rest (g .there);
-                few = g .few;
-                soon = omega (arith, g .soon, wait-small);
                 wrote = g .wrote;
                 left = g .left ∙ ap (λ (ss : List Step). g .lines ++ bodyFrom told time pins ss) rest;
               }
 
         module _ (e v : ℕ) (q : s ≡ Pins e v) where
           pub going-encoder : e < 20
-          going-encoder = subst GoodStep q (good-now .0) .0
+          going-encoder = good-now (Pins e v) q .0
 
           pub going-value : v < 4
-          going-value = subst GoodStep q (good-now .0) .1
+          going-value = good-now (Pins e v) q .1
 
           pub value-fits : Fits w8 v
           value-fits = record { fits = omega (arith, going-value) }
@@ -183,10 +180,8 @@ module _ (log : List ℕ) (start n : ℕ) where
             lines = g .lines ++ timed told time (changesOf e (getD pins e 0) v);
             within = omega arith;
             long = length-set pins e v ∙ g .long;
-            good = good-now .1;
+            good = good-now (Pins e v) q .2;
             there = there-set (restOf (i + 1)) pins e v (omega (arith, going-value)) (there-now .1);
-            few = g .few;
-            soon = omega (arith, g .soon);
             wrote = rw text-append (put-then out₀ out out′ (textOf (g .lines)) (textOf (timed told time (changesOf e (getD pins e 0) v))) from at at′ (g .wrote) y);
             left =
                 g .left ∙ ap (λ (ss : List Step). g .lines ++ bodyFrom told time pins ss) rest-pins
@@ -195,9 +190,9 @@ module _ (log : List ℕ) (start n : ℕ) where
 
 -- ---- the header and then the changes
 
-pub dump-put : (steps : List Step) (pins o a b : List ℕ) (p q : ℕ) → pins ≡ startOf steps → Put o 0 (textOf (headerOf pins)) a p
+pub dump-put : (steps : List Step) (pins o a b : List ℕ) (p q : ℕ) → pins ≡ startOf steps → Put o 0 (textOf (headerOf pins pins)) a p
     → Put a p (textOf (bodyFrom false 0 pins steps)) b q → Put o 0 (textOf (dumpOf steps)) b q
 unfolding dumpOf
 dump-put steps pins o a b p q e u v =
-    subst (λ (l : List ℕ). Put o 0 (textOf (headerOf l ++ bodyFrom false 0 l steps)) b q) e
-    (rw text-append (put-then o a b (textOf (headerOf pins)) (textOf (bodyFrom false 0 pins steps)) 0 p q u v))
+    subst (λ (l : List ℕ). Put o 0 (textOf (headerOf l l ++ bodyFrom false 0 l steps)) b q) e
+    (rw text-append (put-then o a b (textOf (headerOf pins pins)) (textOf (bodyFrom false 0 pins steps)) 0 p q u v))

@@ -27,7 +27,7 @@ use Rattle.walk.specs.Turn.{turnOf}
 use Rattle.walk.proofs.Replaying.{by-turn}
 use Rattle.vcd.specs.declared.Step.{Step}
 use Rattle.vcd.specs.declared.Step.the-variants.{Wait, Pins as Seen}
-use Rattle.vcd.specs.Dump.{GoodStep, Good}
+use Rattle.vcd.specs.Dump.{Good}
 use Rattle.dump.specs.Dump.{seenOf}
 
 -- ---- where it lies
@@ -57,6 +57,10 @@ module _ (s : List ℕ) (at : ℕ) where
   none-at n m = rw (first, ne-eqb (byte s at) 3 n, ne-eqb (byte s at) 4 m)
 
 -- ---- what is decoded
+
+abbrev GoodStep : Step → Type 0
+GoodStep (Wait t) = t < 2 ^ 32
+GoodStep (Seen e v) = (e < 20) × (v < 4)
 
 module _ (o : Edition) (s : List ℕ) where
   pub seen-pins : (i v : ℕ) → decodeOf o s ≡ Names (Pins i v) → seenOf s ≡ Seen (10 * bankOf s + i) v
@@ -88,6 +92,13 @@ module _ (o : Edition) (s : List ℕ) where
   good-record b =
       by-turn o b s (λ t. applies t ≡ true → GoodStep (seenOf s)) (λ n e h. absurd (false≢true h)) (λ r e k h. good r e (formed o s r e)) (λ r e k h. good r e (formed o s r e))
 
--- the records of a run that goes to its end
-pub good-run : (o : Edition) (rs : List (List ℕ)) → played o rs .course ≡ going → Good (map seenOf rs)
-good-run o rs h = every-going (turnOf o) (λ b rs x. Good (map seenOf rs)) (λ b. tt) (λ b r rs a ih. (good-record o r b a, ih)) fresh rs h
+-- the records of a run that goes to its end; 25 * 2^32 ns for each
+abbrev Soon : List Step → Type 0
+Soon ss = (now : ℕ) → now + 107374182400 * length ss < 2 ^ 48 → Good (2 ^ 48) now ss
+
+good-step : (s : Step) (ss : List Step) → GoodStep s → Soon ss → Soon (s ∷ ss)
+good-step (Wait t) ss g ih now h = ih (now + 25 * t) (omega arith)
+good-step (Seen e v) ss g ih now h = (g .0, g .1, ih now (omega arith))
+
+pub good-run : (o : Edition) (rs : List (List ℕ)) → played o rs .course ≡ going → Soon (map seenOf rs)
+good-run o rs h = every-going (turnOf o) (λ b rs x. Soon (map seenOf rs)) (λ b now l. omega arith) (λ b r rs a ih. good-step (seenOf r) (map seenOf rs) (good-record o r b a) ih) fresh rs h

@@ -1,6 +1,6 @@
 -- How the code gets there: the records of a log that replays, by their places. No public promise rests on this.
 -- Assumes nothing.
-use Prim.Native.Nat.{ℕ, _+_, _*_, _≤_}
+use Prim.Native.Nat.{ℕ, _+_, _*_, _^_, _≤_}
 use mathlib.Core.List.{List, map}
 use lib.ListN.{length, drop}
 use Rattle.fold.specs.Device.{records}
@@ -16,7 +16,7 @@ stepsIn log start n = map seenOf (records 16 n (drop start log))
 pub record Ready (log : List ℕ) (start n : ℕ) : Type 0 where
   pub within : start + 16 * n ≤ length log
   pub few : n ≤ 2047
-  pub good : Good (stepsIn log start n)
+  pub good : Good (2 ^ 48) 0 (stepsIn log start n)
 
 abbrev pub textIn : List ℕ → ℕ → ℕ → List ℕ
 textIn log start n = textOf (dumpOf (stepsIn log start n))

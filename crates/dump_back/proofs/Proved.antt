@@ -1,5 +1,5 @@
 -- The facts of specs/Facts.antt. Assumes nothing.
-use mathlib.Core.Path.{_≡_, refl, ap, _∙_}
+use mathlib.Core.Path.{_≡_, refl, sym, ap, subst}
 use mathlib.Core.List.{List, [], _++_}
 use Prim.Native.Nat.{ℕ, _≤_}
 use lib.ListN.{length, take, drop}
@@ -10,7 +10,7 @@ use Rattle.fold.specs.Run.{going}
 use Rattle.fold.specs.Output.{over}
 use Rattle.judge.proofs.Proved.{shown as judged}
 use Rattle.vcd.specs.Entries.{entriesIn}
-use Rattle.vcd.specs.Reader.{entries, readOf}
+use Rattle.vcd.specs.Reader.{Reads}
 use Rattle.vcd.specs.Facts.{Shown}
 use Rattle.vcd.proofs.Orders.{all-shown}
 use Rattle.made.specs.Made.{replayed, madeOf, outputOf}
@@ -38,8 +38,8 @@ module _ (log : List ℕ) (goes : replayed log .course ≡ going) where
     beyond : drop (madeOf dumpText log (length out) .size) (outputOf dumpText log out) ≡ drop (madeOf dumpText log (length out) .size) out
     beyond = rw (size-is, after-is) (drop-at (dumpText log) (drop (length (dumpText log)) out) (length (dumpText log)) refl)
 
-    read : readOf (take (madeOf dumpText log (length out) .size) (outputOf dumpText log out)) ≡ entries (entriesIn (stepsOf log))
-    read = ap readOf front ∙ is-shown .back
+    read : Reads (take (madeOf dumpText log (length out) .size) (outputOf dumpText log out)) (entriesIn (stepsOf log))
+    read = subst (λ (s : List ℕ). Reads s (entriesIn (stepsOf log))) (sym front) (is-shown .back)
 
 pub all-dumps : AllDumps
 all-dumps log goes = record {

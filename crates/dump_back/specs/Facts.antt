@@ -10,8 +10,8 @@ use Rattle.wire.specs.Record.{bankOf, decodeOf}
 use Rattle.wire.specs.declared.Record.the-variants.{Pins, Ticks}
 use Rattle.wire.specs.declared.Decoded.the-variants.{Names}
 use Rattle.vcd.specs.declared.Step.the-variants.{Wait, Pins as Seen}
-use Rattle.vcd.specs.Entries.{entriesIn, bytesOf}
-use Rattle.vcd.specs.Reader.{entries, readOf}
+use Rattle.vcd.specs.Entries.{entriesIn}
+use Rattle.vcd.specs.Reader.{Reads}
 use Rattle.vcd.specs.Facts.{Shown}
 use Rattle.made.specs.Made.{replayed, madeOf, outputOf}
 use Rattle.dump.specs.Dump.{seenOf, stepsOf, dumpText}
@@ -24,7 +24,7 @@ pub record Dumps (log : List ℕ) : Type 0 where
   -- in the lent output: the text in the first bytes, the length answered, "bytes beyond as they were"; and the reader on these bytes
   pub written : (out : List ℕ) → length (dumpText log) ≤ length out
       → let n = madeOf dumpText log (length out) .size in let after = outputOf dumpText log out in
-      (n ≡ length (dumpText log)) × (take n after ≡ dumpText log) × (drop n after ≡ drop n out) × (readOf (take n after) ≡ entries (entriesIn (stepsOf log)))
+      (n ≡ length (dumpText log)) × (take n after ≡ dumpText log) × (drop n after ≡ drop n out) × Reads (take n after) (entriesIn (stepsOf log))
 
 abbrev pub AllDumps : Type 0
 AllDumps = (log : List ℕ) → replayed log .course ≡ going → Dumps log

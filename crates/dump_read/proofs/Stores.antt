@@ -16,7 +16,7 @@ use Rattle.vcd.specs.declared.Line.{Line}
 use Rattle.vcd.specs.declared.Line.the-variants.{Fixed, Var, Unknown, Time, Change, Other}
 use Rattle.vcd.specs.declared.Reader.{Reader}
 use Rattle.vcd.specs.Entries.{Entry, entriesAt, entryBytes, bytesOf}
-use Rattle.vcd.specs.Reader.{turnOf, standing, toldBefore, toldFrom}
+use Rattle.vcd.specs.How.{turnOf, standing, toldBefore, toldFrom}
 use Rattle.dump_read.specs.How.{Stored}
 
 sets-append : (s t out : List ℕ) (at : ℕ) → sets (sets out at s) (at + length s) t ≡ sets out at (s ++ t)

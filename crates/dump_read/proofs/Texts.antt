@@ -6,22 +6,21 @@ use Prim.Native.Nat.{ℕ, zero, suc, _+_, _-_, _*_, _/_, _≤_, _<_}
 use native.Mathlib.Omega.{arith}
 use native.Mathlib.Nat.{zero-add, le-refl}
 use native.Mathlib.Numerals.{add-one}
-use lib.Dec.{eqb, ltb, leb}
+use lib.Dec.{eqb}
 use lib.ListN.{length, take, drop, getD, length-drop, drop-of-length-le}
 use lib.Seq.{drop-cons, take-suc, getD-drop, length-take-le, sets-eq}
-use borrow.Author.Tests.{not-true, not-false, eq-eqb, ne-eqb, lt-ltb, le-ltb, le-leb, lt-leb, eqb-true, eqb-false}
+use borrow.Author.Tests.{not-true, not-false, eq-eqb, ne-eqb, lt-ltb, le-ltb, eqb-true, eqb-false}
 use Rattle.fold.specs.Output.{over}
 use Rattle.vcd.specs.declared.Line.{Line}
 use Rattle.vcd.specs.declared.Line.the-variants.{Other}
 use Rattle.vcd.specs.declared.Reader.{Reader}
-use Rattle.vcd.specs.Lines.{lineOf, linesFrom, linesOf}
 use Rattle.vcd.specs.Entries.{Entry, bytesOf}
-use Rattle.vcd.specs.Reader.{refused, turnOf, opening, standing, toldBefore, toldFrom, whole, Told, entries, refusal, toldBy, readOf}
+use Rattle.vcd.specs.How.{linesFrom, linesOf, refused, turnOf, opening, standing, toldBefore, toldFrom, whole, entries, refusal, toldBy, readOf}
 use Rattle.dump_read.specs.declared.Scan.{Scan}
-use Rattle.dump_read.specs.declared.Entries.{Entries}
-use Rattle.dump_read.specs.Reading.{readAs, readInto, readingOf, outputOf}
+use Rattle.dump_read.specs.Reading.{Answer}
 use Rattle.dump_read.specs.How.{Stored, lineIn}
 use Rattle.dump_read.proofs.Stores.{bytes-long, stored-none, stored-then, stored-long}
+use Rattle.dump_read.proofs.Answers.{refusing, too-small, reading-all}
 
 -- ---- the line from start to i is under way
 
@@ -147,13 +146,9 @@ module _ (text out₀ out : List ℕ) (s : Scan) (start i : ℕ) (g : Reading te
 -- ---- the whole
 
 module _ (text out : List ℕ) where
-  pub long-answer : 25207 < length text → record { refused = 20; count = 0 } ≡ readingOf text (length out)
-  unfolding readingOf readOf
-  long-answer h = rw (lt-ltb 25207 (length text) h)
-
-  pub long-output : 25207 < length text → out ≡ outputOf text out
-  unfolding outputOf readOf
-  long-output h = rw (lt-ltb 25207 (length text) h)
+  pub long-answer : 25207 < length text → Answer text out 20 0 out
+  unfolding readOf
+  long-answer h = refusing text out (rw (lt-ltb 25207 (length text) h))
 
   module _ (fits : length text ≤ 25207) (s : Scan) (is : s .reader ≡ foldl turnOf opening (linesOf text)) (t : Bool) (w : t ≡ whole (s .reader)) where
     abbrev xs : List Entry
@@ -163,23 +158,8 @@ module _ (text out : List ℕ) where
     unfolding readOf toldBy
     as-told = rw (le-ltb 25207 (length text) fits) (ap (λ (b : Bool). cond b (entries xs) refusal) (ap whole (sym is) ∙ sym w))
 
-    answer-by : (u : Told) → readOf text ≡ u → readingOf text (length out) ≡ readAs u (length out)
-    unfolding readingOf
-    answer-by u e = rw e
-
-    output-by : (u : Told) → readOf text ≡ u → outputOf text out ≡ readInto u out
-    unfolding outputOf
-    output-by u e = rw e
-
-    module _ (no : not t ≡ true) where
-      refuses : readOf text ≡ refusal
-      refuses = as-told ∙ ap (λ (b : Bool). cond b (entries xs) refusal) (not-true t no)
-
-      pub bad-answer : record { refused = 20; count = 0 } ≡ readingOf text (length out)
-      bad-answer = sym (answer-by refusal refuses)
-
-      pub bad-output : out ≡ outputOf text out
-      bad-output = sym (output-by refusal refuses)
+    pub bad-answer : not t ≡ true → Answer text out 20 0 out
+    bad-answer q = refusing text out (as-told ∙ ap (λ (b : Bool). cond b (entries xs) refusal) (not-true t q))
 
     module _ (yes : not t ≡ false) (none none′ : List ℕ) (y : Stored none 0 xs none′ (s .count)) where
       tells : readOf text ≡ entries xs
@@ -188,19 +168,12 @@ module _ (text out : List ℕ) where
       counted : s .count ≡ length xs
       counted = y .number ∙ zero-add (length xs)
 
-      module _ (h : length out / 16 < s .count) where
-        pub small-answer : record { refused = 6; count = 0 } ≡ readingOf text (length out)
-        small-answer = sym (answer-by (entries xs) tells ∙ rw (lt-leb (16 * length xs) (length out) (omega (arith, counted))))
-
-        pub small-output : out ≡ outputOf text out
-        small-output = sym (output-by (entries xs) tells ∙ rw (lt-leb (16 * length xs) (length out) (omega (arith, counted))))
+      pub small-answer : length out / 16 < s .count → Answer text out 6 0 out
+      small-answer h = too-small text out xs tells (omega (arith, counted))
 
       module _ (h : s .count ≤ length out / 16) (out′ : List ℕ) (count : ℕ) (z : Stored out 0 xs out′ count) where
         enough : 16 * length xs ≤ length out
         enough = omega (arith, counted)
-
-        pub whole-answer : record { refused = 0; count = count } ≡ readingOf text (length out)
-        whole-answer = sym (answer-by (entries xs) tells ∙ rw (le-leb (16 * length xs) (length out) enough, z .number, zero-add (length xs)))
 
         over-front : out′ ≡ over (bytesOf xs) out
         unfolding over
@@ -208,5 +181,5 @@ module _ (text out : List ℕ) where
             z .bytes ∙ sets-eq (bytesOf xs) out 0 (omega (arith, bytes-long xs, enough))
             ∙ ap (λ (k : ℕ). bytesOf xs ++ drop k out) (zero-add (length (bytesOf xs)))
 
-        pub whole-output : out′ ≡ outputOf text out
-        whole-output = over-front ∙ sym (output-by (entries xs) tells ∙ rw (le-leb (16 * length xs) (length out) enough))
+        pub whole-answer : Answer text out 0 count out′
+        whole-answer = reading-all text out xs tells count out′ enough (z .number ∙ zero-add (length xs)) over-front

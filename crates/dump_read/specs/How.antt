@@ -6,7 +6,7 @@ use Prim.Native.Nat.{ℕ, _+_, _-_, _*_}
 use lib.ListN.{length, take, drop}
 use lib.Seq.{sets}
 use Rattle.vcd.specs.declared.Line.{Line}
-use Rattle.vcd.specs.Lines.{lineOf}
+use Rattle.vcd.specs.How.{lineOf}
 use Rattle.vcd.specs.Entries.{Entry, bytesOf}
 
 pub record Stored (out : List ℕ) (count : ℕ) (xs : List Entry) (out′ : List ℕ) (count′ : ℕ) : Type 0 where

@@ -1,24 +1,20 @@
--- What dump_read answers and leaves: "any other text is 20, too little room 6, nothing written in both". Assumes nothing.
-use mathlib.Core.Bool.{cond}
+-- What is answered to a text and left in the output: docs/WAVEFORM.md, "The reader". Assumes nothing.
+use mathlib.Core.Path.{_≡_}
 use mathlib.Core.List.{List}
-use Prim.Native.Nat.{ℕ, _*_}
-use lib.Dec.{leb}
+use Prim.Native.Nat.{ℕ, _*_, _≤_, _<_}
 use lib.ListN.{length}
 use Rattle.fold.specs.Output.{over}
-use Rattle.vcd.specs.Entries.{bytesOf}
-use Rattle.vcd.specs.Reader.{Told, entries, refusal, readOf}
-use Rattle.dump_read.specs.declared.Entries.{Entries}
+use Rattle.vcd.specs.Entries.{Entry, bytesOf}
+use Rattle.vcd.specs.Reader.{Reads}
 
-abbrev pub readAs : Told → ℕ → Entries
-readAs refusal room = record { refused = 20; count = 0 }
-readAs (entries xs) room = cond (leb (16 * length xs) room) (record { refused = 0; count = length xs }) (record { refused = 6; count = 0 })
+pub record Answer (text out : List ℕ) (refused count : ℕ) (out′ : List ℕ) : Type 0 where
+  -- "bits 8 up: how many entries; 16 bytes each"
+  pub read : (xs : List Entry) → Reads text xs → 16 * length xs ≤ length out → (refused ≡ 0) × (count ≡ length xs) × (out′ ≡ over (bytesOf xs) out)
+  -- "6 if the entries do not fit; nothing is written"
+  pub cramped : (xs : List Entry) → Reads text xs → length out < 16 * length xs → (refused ≡ 6) × (count ≡ 0) × (out′ ≡ out)
+  -- "Any other text is refusal 20"
+  pub other : ((xs : List Entry) → Reads text xs → ⊥) → (refused ≡ 20) × (count ≡ 0) × (out′ ≡ out)
 
-abbrev pub readInto : Told → List ℕ → List ℕ
-readInto refusal out = out
-readInto (entries xs) out = cond (leb (16 * length xs) (length out)) (over (bytesOf xs) out) out
-
-unfoldable pub readingOf : List ℕ → ℕ → Entries
-readingOf text room = readAs (readOf text) room
-
-unfoldable pub outputOf : List ℕ → List ℕ → List ℕ
-outputOf text out = readInto (readOf text) out
+-- "Any two outcomes allowed by a contract are proved the same"
+abbrev pub Settled : Type 0
+Settled = (text out o p : List ℕ) (j k m n : ℕ) → Answer text out j m o → Answer text out k n p → (j ≡ k) × (m ≡ n) × (o ≡ p)

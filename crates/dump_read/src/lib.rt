@@ -5,11 +5,10 @@ ghost use mathlib.Core.Path.{_≡_};
 ghost use mathlib.Core.List.{[], _∷_, foldl};
 ghost use Prim.Native.Nat.{_+_, _<_, _≤_};
 ghost use lib.ListN.{length};
-ghost use Rattle.vcd.specs.Lines.{linesOf};
 ghost use Rattle.vcd.specs.Entries.{entriesAt, entryBytes};
-ghost use Rattle.vcd.specs.Reader.{turnOf, opening, standing, toldBefore, toldFrom};
+ghost use Rattle.vcd.specs.How.{linesOf, turnOf, opening, standing, toldBefore, toldFrom};
 ghost use Rattle.vcd_read.specs.Bounds.{Bounded};
-ghost use Rattle.dump_read.specs.Reading.{readingOf, outputOf};
+ghost use Rattle.dump_read.specs.Reading.{Answer};
 ghost use Rattle.dump_read.specs.How.{Stored, lineIn};
 
 // The refusal, 0 for none, and how many entries.
@@ -144,8 +143,7 @@ fn read_text(text: &[u8], out: &mut [u8]) -> Scan
 
 // The first pass over the text stores nothing, so that a refusal writes nothing.
 pub fn dump_read(text: &[u8], out: &mut [u8]) -> Entries
-    ensures { λ r. ⌜ r ≡ readingOf (now (text .entry)) (length (now (out .entry))) ⌝ }
-    ensures { λ _. ⌜ now (out .exit) ≡ outputOf (now (text .entry)) (now (out .entry)) ⌝ }
+    ensures { λ r. ⌜ Answer (now (text .entry)) (now (out .entry)) (r .refused) (r .count) (now (out .exit)) ⌝ }
     ensures { λ r. ⌜ r .count ≤ 504160 ⌝ }
 {
     if text.len() > 25207 {

@@ -15,7 +15,7 @@ use Rattle.made.specs.Made.{madeOf}
 use Rattle.made.proofs.Makes as makes
 use Rattle.dump.specs.Dump.{dumpText}
 use Rattle.dump.proofs.Whole.{text-short}
-use Rattle.dump_read.specs.declared.Entries.{Entries}
+use Rattle.dump_read.specs.Reading.{Answer}
 use Rattle.shrink.specs.Shrink.{smallerOf}
 use Rattle.shrink.proofs.Whole.{smaller-small}
 use Rattle.sign.specs.declared.Signed.{Signed}
@@ -52,8 +52,8 @@ module _ (w : ℕ) where
   pub made-word : (d e : Made) → d ≡ e → Word (d .refused) (d .size) w → Word (e .refused) (e .size) w
   made-word d e q x = rw q at x
 
-  pub entries-word : (d e : Entries) → d ≡ e → Word (d .refused) (d .count) w → Word (e .refused) (e .count) w
-  entries-word d e q x = rw q at x
+  pub entries-word : (text out out′ : List ℕ) (k n : ℕ) → Answer text out k n out′ → Word k n w → Answer text out (w % 2 ^ 8) (w / 2 ^ 8) out′
+  entries-word text out out′ k n a x = rw (x .refusal, x .above) a
 
   pub sign-word : (t : Signs) (s : Signed) → s ≡ signedOf t → Word (s .refused) (s .count) w → Word (t .refused) (length (t .entries)) w
   sign-word t s e x = rw e at x

@@ -1,6 +1,6 @@
 // The calls on logs and streams. Each answer is one number: the refusal in the low byte, 0 if none, and above it how many records were applied, how many
 // bytes were written, or how many stretches, entries or readings there are.
-ghost use Prim.Native.Nat.{_<_, _%_, _^_};
+ghost use Prim.Native.Nat.{_<_, _/_, _%_, _^_};
 ghost use mathlib.Core.Path.{_≡_};
 ghost use lib.ListN.{length};
 ghost use Rattle.fold.specs.Output.{numberOf};
@@ -8,7 +8,7 @@ ghost use Rattle.walk.specs.Turn.{written};
 ghost use Rattle.replay.specs.Replay.{replayOf};
 ghost use Rattle.made.specs.Made.{madeOf, outputOf as made-output};
 ghost use Rattle.dump.specs.Dump.{dumpText};
-ghost use Rattle.dump_read.specs.Reading.{readingOf, outputOf as entries-output};
+ghost use Rattle.dump_read.specs.Reading.{Answer};
 ghost use Rattle.shrink.specs.Shrink.{smallerOf};
 ghost use Rattle.sign.specs.Sign.{signOf, signOutput};
 ghost use Rattle.writer.specs.Writer.{writtenOf, outputOf as write-output};
@@ -45,8 +45,7 @@ pub extern "C" fn rvz_dump(log: &[u8], out: &mut [u8]) -> u64
 // How many entries.
 #[no_mangle]
 pub extern "C" fn rvz_dump_read(text: &[u8], out: &mut [u8]) -> u64
-    ensures { λ r. ⌜ Word (readingOf (now (text .entry)) (length (now (out .entry))) .refused) (readingOf (now (text .entry)) (length (now (out .entry))) .count) r ⌝ }
-    ensures { λ _. ⌜ now (out .exit) ≡ entries-output (now (text .entry)) (now (out .entry)) ⌝ }
+    ensures { λ r. ⌜ Answer (now (text .entry)) (now (out .entry)) (r % 2 ^ 8) (r / 2 ^ 8) (now (out .exit)) ⌝ }
 {
     let e = dump_read::dump_read(text, out);
     word(e.refused, e.count)

@@ -1,26 +1,23 @@
 -- Each line of a dump can be read, and how long a dump can be. Assumes nothing.
-use mathlib.Core.Path.{_≡_, refl, sym, ap, _∙_, subst}
+use mathlib.Core.Path.{_≡_, refl, sym, ap, _∙_}
 use mathlib.Core.Bool.{Bool, true, false, _&&_, _||_, not, cond}
 use mathlib.Core.List.{List, [], _∷_, _++_, append-assoc}
-use Prim.Native.Nat.{ℕ, zero, suc, _+_, _*_, _/_, _%_, _^_, _≤_, _<_}
+use Prim.Native.Nat.{ℕ, suc, _+_, _*_, _/_, _%_, _^_, _≤_, _<_}
 use native.Mathlib.Omega.{arith}
-use native.Mathlib.Nat.{le-trans}
 use lib.Dec.{eqb, ltb}
 use lib.ListN.{length, getD, set, length-append}
-use borrow.Author.Tests.{eqb-true, eqb-false, eq-eqb, lt-ltb, le-ltb}
+use borrow.Author.Tests.{eqb-true}
 use Rattle.decimal.specs.Digits.{digitsOf}
 use Rattle.decimal.proofs.Back.{few-digits}
 use Rattle.vcd.specs.declared.Step.{Step}
 use Rattle.vcd.specs.declared.Step.the-variants.{Wait, Pins}
 use Rattle.vcd.specs.declared.Line.{Line}
 use Rattle.vcd.specs.declared.Line.the-variants.{Fixed, Var, Unknown, Time, Change}
-use Rattle.vcd.specs.Lines.{timescale, scope, upscope, definitions, dumpvars, end, varOf, printOf, textOf, linesOf}
-use Rattle.vcd.specs.Dump.{startOf, wiresFrom, headerOf, changeOf, changesOf, timed, bodyFrom, dumpOf, GoodStep, Good}
-use Rattle.vcd.specs.Entries.{entriesIn}
-use Rattle.vcd.specs.Reader.{Told, entries, refusal, toldBy, readOf}
-use Rattle.vcd.proofs.Print.{GoodLine, GoodLines, lines-back}
+use Rattle.vcd.specs.Lines.{fixedLines, varOf, printOf, textOf}
+use Rattle.vcd.specs.Dump.{startOf, wiresFrom, headerOf, changeOf, changesOf, timed, bodyFrom, dumpOf, Good}
+use Rattle.vcd.proofs.Print.{GoodLine, GoodLines}
 use Rattle.vcd.proofs.Starts.{long-start}
-use Rattle.vcd.proofs.Heart.{no-change, told-dump}
+use Rattle.vcd.proofs.Heart.{no-change}
 
 pub text-append : (ls ms : List Line) → textOf (ls ++ ms) ≡ textOf ls ++ textOf ms
 unfolding textOf
@@ -30,7 +27,7 @@ text-append (l ∷ ls) ms = rw (text-append ls ms) (sym (append-assoc (printOf l
 pub text-long : (ls ms : List Line) → length (textOf (ls ++ ms)) ≡ length (textOf ls) + length (textOf ms)
 text-long ls ms = ap length (text-append ls ms) ∙ length-append (textOf ls) (textOf ms)
 
-good-append : (ls ms : List Line) → GoodLines ls → GoodLines ms → GoodLines (ls ++ ms)
+pub good-append : (ls ms : List Line) → GoodLines ls → GoodLines ms → GoodLines (ls ++ ms)
 good-append [] ms h k = k
 good-append (l ∷ ls) ms h k = (h .0, good-append ls ms (h .1) k)
 
@@ -77,23 +74,23 @@ unknown-long : (w : ℕ) → length (textOf (Unknown w ∷ [])) ≤ 3
 unfolding textOf printOf
 unknown-long w = omega arith
 
-module _ (pins : List ℕ) (l : length pins ≡ 20) where
-  good-header : GoodLines (headerOf pins)
+module _ (pins unknown : List ℕ) (l : length pins ≡ 20) (m : length unknown ≡ 20) where
+  pub good-header : GoodLines (headerOf pins unknown)
   good-header = (
     omega arith,
     (
       omega arith,
-      good-append (wiresFrom Var 0 pins) (Fixed 2 ∷ Fixed 3 ∷ Fixed 4 ∷ (wiresFrom Unknown 0 pins ++ Fixed 5 ∷ [])) (good-wires Var 36 (λ w h. h) var-long pins 0 (omega arith))
-          (omega arith, (omega arith, (omega arith, good-append (wiresFrom Unknown 0 pins) (Fixed 5 ∷ []) (good-wires Unknown 3 (λ w h. h) unknown-long pins 0 (omega arith)) (omega arith, tt)))),
+      good-append (wiresFrom Var 0 pins) (Fixed 2 ∷ Fixed 3 ∷ Fixed 4 ∷ (wiresFrom Unknown 0 unknown ++ Fixed 5 ∷ [])) (good-wires Var 36 (λ w h. h) var-long pins 0 (omega arith))
+          (omega arith, (omega arith, (omega arith, good-append (wiresFrom Unknown 0 unknown) (Fixed 5 ∷ []) (good-wires Unknown 3 (λ w h. h) unknown-long unknown 0 (omega arith)) (omega arith, tt)))),
     ),
   )
 
   fixed-long : (ls ms : List Line) → length (textOf (Fixed 0 ∷ Fixed 1 ∷ (ls ++ Fixed 2 ∷ Fixed 3 ∷ Fixed 4 ∷ (ms ++ Fixed 5 ∷ [])))) ≡ 95 + length (textOf ls) + length (textOf ms)
-  unfolding textOf printOf timescale scope upscope definitions dumpvars end
+  unfolding textOf printOf fixedLines
   fixed-long ls ms = omega (arith, text-long ls (Fixed 2 ∷ Fixed 3 ∷ Fixed 4 ∷ (ms ++ Fixed 5 ∷ [])), text-long ms (Fixed 5 ∷ []))
 
-  short-header : length (textOf (headerOf pins)) ≤ 1655
-  short-header = omega (arith, fixed-long (wiresFrom Var 0 pins) (wiresFrom Unknown 0 pins), short-wires Var 36 (λ w h. h) var-long pins 0, short-wires Unknown 3 (λ w h. h) unknown-long pins 0)
+  short-header : length (textOf (headerOf pins unknown)) ≤ 1655
+  short-header = omega (arith, fixed-long (wiresFrom Var 0 pins) (wiresFrom Unknown 0 unknown), short-wires Var 36 (λ w h. h) var-long pins 0, short-wires Unknown 3 (λ w h. h) unknown-long unknown 0)
 
 -- ---- the body: a change that no time stands before follows one that a time does, and a time follows ticks
 
@@ -141,18 +138,25 @@ timed-short false now [] h = omega arith
 timed-short true now (l ∷ ls) h = omega arith
 timed-short false now (l ∷ ls) h = omega (arith, text-long (Time now ∷ []) (l ∷ ls), time-short now h)
 
--- the last of the steps ends before 10^15 ns
-abbrev Soon : ℕ → List Step → Type 0
-Soon now ss = now + 107374182400 * length ss < 10 ^ 15
+-- what ends in time is in time
+pub in-time : (ss : List Step) (end now : ℕ) → Good end now ss → now < end
+in-time [] end now g = g
+in-time (Wait t ∷ ss) end now g = omega (arith, in-time ss end (now + 25 * t) g)
+in-time (Pins e v ∷ ss) end now g = in-time ss end now (g .2)
 
-good-body : (ss : List Step) (told : Bool) (now : ℕ) (pins : List ℕ) → Good ss → Soon now ss → GoodLines (bodyFrom told now pins ss)
+pub still-good : (ss : List Step) (end end′ now : ℕ) → end ≤ end′ → Good end now ss → Good end′ now ss
+still-good [] end end′ now h g = omega arith
+still-good (Wait t ∷ ss) end end′ now h g = still-good ss end end′ (now + 25 * t) h g
+still-good (Pins e v ∷ ss) end end′ now h g = (g .0, g .1, still-good ss end end′ now h (g .2))
+
+pub good-body : (ss : List Step) (told : Bool) (now : ℕ) (pins : List ℕ) (end : ℕ) → end ≤ 2 ^ 64 → Good end now ss → GoodLines (bodyFrom told now pins ss)
 unfolding bodyFrom
-good-body [] told now pins g s = tt
-good-body (Wait t ∷ ss) told now pins g s = good-body ss (told && eqb t 0) (now + 25 * t) pins (g .1) (omega (arith, g .0))
-good-body (Pins e v ∷ ss) told now pins g s =
+good-body [] told now pins end s g = tt
+good-body (Wait t ∷ ss) told now pins end s g = good-body ss (told && eqb t 0) (now + 25 * t) pins end s g
+good-body (Pins e v ∷ ss) told now pins end s g =
     good-append (timed told now (changesOf e (getD pins e 0) v)) (bodyFrom (told || not (eqb (getD pins e 0) v)) now (set pins e v) ss)
-    (good-timed told now (changesOf e (getD pins e 0) v) (omega arith) (good-changes e (getD pins e 0) v (g .0 .0) (g .0 .1)))
-    (good-body ss (told || not (eqb (getD pins e 0) v)) now (set pins e v) (g .1) (omega arith))
+    (good-timed told now (changesOf e (getD pins e 0) v) (omega (arith, in-time ss end now (g .2))) (good-changes e (getD pins e 0) v (g .0) (g .1)))
+    (good-body ss (told || not (eqb (getD pins e 0) v)) now (set pins e v) end s (g .2))
 
 -- 23 bytes for two steps
 abbrev Short : Bool → ℕ → List ℕ → List Step → Type 0
@@ -186,31 +190,22 @@ short-pins e v ss told now pins small soon ih = go told (eqb (getD pins e 0) v) 
         let none : timed false now (changesOf e p v) ≡ [] = ap (timed false now) (ap (changesOf e p) (sym same) ∙ no-change e p (omega arith)) in
         rw none (omega (arith, ih false))
 
-short-body : (ss : List Step) (told : Bool) (now : ℕ) (pins : List ℕ) → Good ss → Soon now ss → Short told now pins ss
+short-body : (ss : List Step) (told : Bool) (now : ℕ) (pins : List ℕ) → Good (2 ^ 48) now ss → Short told now pins ss
 unfolding bodyFrom textOf
-short-body [] told now pins g s = omega arith
-short-body (Wait t ∷ ss) told now pins g s = short-wait t ss told now pins (short-body ss (told && eqb t 0) (now + 25 * t) pins (g .1) (omega (arith, g .0)))
-short-body (Pins e v ∷ ss) told now pins g s = short-pins e v ss told now pins (g .0 .1) (omega arith) (λ b. short-body ss b now (set pins e v) (g .1) (omega arith))
+short-body [] told now pins g = omega arith
+short-body (Wait t ∷ ss) told now pins g = short-wait t ss told now pins (short-body ss (told && eqb t 0) (now + 25 * t) pins g)
+short-body (Pins e v ∷ ss) told now pins g =
+    short-pins e v ss told now pins (g .1) (omega (arith, in-time ss (2 ^ 48) now (g .2))) (λ b. short-body ss b now (set pins e v) (g .2))
 
--- ---- the whole
+-- ---- the whole: RVZ_DUMP_BYTES
 
-module _ (steps : List Step) (good : Good steps) (few : length steps ≤ 2047) where
-  pub good-dump : GoodLines (dumpOf steps)
-  unfolding dumpOf
-  good-dump = good-append (headerOf (startOf steps)) (bodyFrom false 0 (startOf steps) steps) (good-header (startOf steps) (long-start steps)) (good-body steps false 0 (startOf steps) good (omega arith))
-
-  -- RVZ_DUMP_BYTES
-  pub short-dump : length (textOf (dumpOf steps)) ≤ 25207
-  unfolding dumpOf
-  short-dump =
-      omega (
-        arith,
-        text-long (headerOf (startOf steps)) (bodyFrom false 0 (startOf steps) steps),
-        short-header (startOf steps) (long-start steps),
-        short-body steps false 0 (startOf steps) good (omega arith),
-      )
-
-  -- the reader gives back the pins
-  pub read-back : readOf (textOf (dumpOf steps)) ≡ entries (entriesIn steps)
-  unfolding readOf
-  read-back = rw (le-ltb 25207 (length (textOf (dumpOf steps))) short-dump) (ap toldBy (lines-back (dumpOf steps) good-dump) ∙ told-dump steps good)
+pub short-dump : (steps : List Step) → Good (2 ^ 48) 0 steps → length steps ≤ 2047 → length (textOf (dumpOf steps)) ≤ 25207
+unfolding dumpOf
+short-dump steps good few =
+    let start = startOf steps in
+    omega (
+      arith,
+      text-long (headerOf start start) (bodyFrom false 0 start steps),
+      short-header start start (long-start steps) (long-start steps),
+      short-body steps false 0 start good,
+    )

@@ -1,24 +1,24 @@
 -- What the reader makes of a dump: the pins as they stand after all changes at each time at which something changed.
 -- Assumes nothing.
 use mathlib.Core.Path.{_≡_, refl, sym, ap, _∙_, subst}
-use mathlib.Core.Bool.{Bool, true, false, _&&_, _||_, not, cond, false≢true}
+use mathlib.Core.Bool.{Bool, true, false, _&&_, _||_, cond, false≢true}
 use mathlib.Core.List.{List, [], _∷_, _++_, foldl, append-assoc, append-nil}
-use Prim.Native.Nat.{ℕ, zero, suc, _+_, _*_, _/_, _%_, _^_, _≤_, _<_}
+use Prim.Native.Nat.{ℕ, zero, suc, _+_, _*_, _/_, _%_, _≤_, _<_}
 use native.Mathlib.Omega.{arith}
 use native.Mathlib.Nat.{add-zero}
-use lib.Dec.{eqb, ltb, leb}
+use lib.Dec.{eqb, ltb}
 use lib.ListN.{length, getD, set, replicate, length-set, length-append}
 use lib.Seq.{append-snoc, getD-at, set-at, getD-set-same, set-getD}
-use borrow.Author.Tests.{eqb-true, eqb-false, eq-eqb, ne-eqb, lt-ltb, le-ltb, le-leb, ltb-true, ltb-false}
+use borrow.Author.Tests.{eqb-true, eqb-false, eq-eqb, ne-eqb, lt-ltb, le-leb, ltb-true, ltb-false}
 use Rattle.vcd.specs.declared.Step.{Step}
 use Rattle.vcd.specs.declared.Step.the-variants.{Wait, Pins}
 use Rattle.vcd.specs.declared.Line.{Line}
 use Rattle.vcd.specs.declared.Line.the-variants.{Fixed, Var, Unknown, Time, Change}
 use Rattle.vcd.specs.declared.Reader.{Reader}
-use Rattle.vcd.specs.Dump.{startOf, wiresFrom, headerOf, changeOf, changesOf, timed, bodyFrom, dumpOf, GoodStep, Good}
-use Rattle.vcd.specs.Entries.{Entry, unchanged, entriesAt, entriesFrom, entriesIn}
-use Rattle.vcd.specs.Reader.{turnOf, varTurn, unknownTurn, timeTurn, changeTurn, pinOf, taken, pinned, opening, toldBefore, toldFrom, whole, Told, entries, refusal, toldBy}
-use Rattle.vcd.proofs.Starts.{Fresh, fresh-start, long-start, There, there-set, there-start}
+use Rattle.vcd.specs.Dump.{wiresFrom, headerOf, changesOf, timed, bodyFrom, Good}
+use Rattle.vcd.specs.Entries.{Entry, unchanged, entriesAt, entriesFrom}
+use Rattle.vcd.specs.How.{turnOf, varTurn, unknownTurn, timeTurn, changeTurn, opening, toldBefore, toldFrom, whole, entries, toldBy}
+use Rattle.vcd.proofs.Starts.{Fresh, Under, There, there-set}
 
 -- what a run tells, and where it ends
 abbrev pub Run : Type 0
@@ -58,7 +58,7 @@ vars-done : (a : ℕ) (pins : List ℕ) (ls : List Line) → a % 2 ≡ 0 → run
 unfolding toldFrom toldBefore turnOf
 vars-done a pins ls even = rw even
 
-vars : (xs p : List ℕ) (e a : ℕ) (ls : List Line) → length p ≡ e → a % 2 ≡ 0 → a ≤ 2 * e → Fresh xs
+pub vars : (xs p : List ℕ) (e a : ℕ) (ls : List Line) → length p ≡ e → a % 2 ≡ 0 → a ≤ 2 * e → Fresh xs
     → run (at 2 a 0 (p ++ replicate (length xs) 5) unchanged) (wiresFrom Var e xs ++ Fixed 2 ∷ ls) ≡ run (at 3 0 0 (p ++ xs) unchanged) ls
 unfolding wiresFrom toldFrom toldBefore turnOf
 vars [] p e a ls l even below h = vars-done a (p ++ []) ls even
@@ -88,33 +88,35 @@ unknowns-done : (a : ℕ) (pins : List ℕ) (ls : List Line) → a % 2 ≡ 0 →
 unfolding toldFrom toldBefore turnOf
 unknowns-done a pins ls even = rw even
 
-unknowns : (xs p : List ℕ) (e a : ℕ) (ls : List Line) → length p ≡ e → a % 2 ≡ 0 → a ≤ 2 * e → Fresh xs
-    → run (at 5 a 0 (p ++ xs) unchanged) (wiresFrom Unknown e xs ++ Fixed 5 ∷ ls) ≡ run (at 6 0 0 (p ++ xs) unchanged) ls
+pub unknowns : (xs ys p : List ℕ) (e a : ℕ) (ls : List Line) → length p ≡ e → a % 2 ≡ 0 → a ≤ 2 * e → length xs ≡ length ys → Under xs ys
+    → run (at 5 a 0 (p ++ ys) unchanged) (wiresFrom Unknown e xs ++ Fixed 5 ∷ ls) ≡ run (at 6 0 0 (p ++ ys) unchanged) ls
 unfolding wiresFrom toldFrom toldBefore turnOf
-unknowns [] p e a ls l even below h = unknowns-done a (p ++ []) ls even
-unknowns (x ∷ xs) p e a ls l even below h =
-    go (eqb x 5) refl (λ b ev bel. rw (append-snoc p x xs) at (unknowns xs (p ++ x ∷ []) (e + 1) b ls (length-append p (x ∷ []) ∙ omega arith) ev bel (h .1)))
+unknowns [] ys p e a ls l even below m h = unknowns-done a (p ++ ys) ls even
+unknowns (x ∷ xs) [] p e a ls l even below m h = absurd (omega arith)
+unknowns (x ∷ xs) (y ∷ ys) p e a ls l even below m h =
+    go (eqb x 5) refl
+    (λ b ev bel. rw (append-snoc p y ys) at (unknowns xs ys (p ++ y ∷ []) (e + 1) b ls (length-append p (y ∷ []) ∙ omega arith) ev bel (omega arith) (h .1)))
   where
     goal : List Line → ℕ → Type 0
-    goal lines b = run (at 5 b 0 (p ++ x ∷ xs) unchanged) (lines ++ wiresFrom Unknown (e + 1) xs ++ Fixed 5 ∷ ls) ≡ run (at 6 0 0 (p ++ x ∷ xs) unchanged) ls
+    goal lines b = run (at 5 b 0 (p ++ y ∷ ys) unchanged) (lines ++ wiresFrom Unknown (e + 1) xs ++ Fixed 5 ∷ ls) ≡ run (at 6 0 0 (p ++ y ∷ ys) unchanged) ls
 
     go : (t : Bool) → eqb x 5 ≡ t → ((b : ℕ) → b % 2 ≡ 0 → b ≤ 2 * (e + 1) → goal [] b) → goal (cond t [] (Unknown (2 * e) ∷ Unknown (2 * e + 1) ∷ [])) a
     go true q ih = ih a even (omega arith)
     go false q ih =
-        let n = eqb-false x 5 q in
-        let f : getD (p ++ x ∷ xs) e 0 ≡ 4 = getD-at p x xs 0 e l ∙ omega (arith, h .0) in
-        ap (λ (r : Reader). run r (Unknown (2 * e + 1) ∷ (wiresFrom Unknown (e + 1) xs ++ Fixed 5 ∷ ls))) (unknown-a e a even below (p ++ x ∷ xs) f)
-        ∙ ap (λ (r : Reader). run r (wiresFrom Unknown (e + 1) xs ++ Fixed 5 ∷ ls)) (unknown-b e a even below (p ++ x ∷ xs) f)
+        let f : getD (p ++ y ∷ ys) e 0 ≡ 4 = getD-at p y ys 0 e l ∙ h .0 (eqb-false x 5 q) in
+        ap (λ (r : Reader). run r (Unknown (2 * e + 1) ∷ (wiresFrom Unknown (e + 1) xs ++ Fixed 5 ∷ ls))) (unknown-a e a even below (p ++ y ∷ ys) f)
+        ∙ ap (λ (r : Reader). run r (wiresFrom Unknown (e + 1) xs ++ Fixed 5 ∷ ls)) (unknown-b e a even below (p ++ y ∷ ys) f)
         ∙ ih (2 * e + 1 + 1) (omega arith) (omega arith)
 
-pub header : (pins : List ℕ) (ls : List Line) → length pins ≡ 20 → Fresh pins → run opening (headerOf pins ++ ls) ≡ run (at 6 0 0 pins unchanged) ls
+pub header : (pins unknown : List ℕ) (ls : List Line) → length pins ≡ 20 → length unknown ≡ 20 → Fresh pins → Under unknown pins
+    → run opening (headerOf pins unknown ++ ls) ≡ run (at 6 0 0 pins unchanged) ls
 unfolding toldFrom toldBefore turnOf
-header pins ls e h =
-    let rest = Fixed 3 ∷ Fixed 4 ∷ (wiresFrom Unknown 0 pins ++ Fixed 5 ∷ []) in
+header pins unknown ls e f h u =
+    let rest = Fixed 3 ∷ Fixed 4 ∷ (wiresFrom Unknown 0 unknown ++ Fixed 5 ∷ []) in
     ap (run (at 2 0 0 (replicate 20 5) unchanged)) (append-assoc (wiresFrom Var 0 pins) (Fixed 2 ∷ rest) ls)
     ∙ (rw e at (vars pins [] 0 0 (rest ++ ls) refl refl (omega arith) h))
-    ∙ ap (run (at 5 0 0 pins unchanged)) (append-assoc (wiresFrom Unknown 0 pins) (Fixed 5 ∷ []) ls)
-    ∙ unknowns pins [] 0 0 ls refl refl (omega arith) h
+    ∙ ap (run (at 5 0 0 pins unchanged)) (append-assoc (wiresFrom Unknown 0 unknown) (Fixed 5 ∷ []) ls)
+    ∙ unknowns unknown pins [] 0 0 ls refl refl (omega arith) (f ∙ sym e) u
 
 -- ---- one pins record's changes
 
@@ -133,7 +135,7 @@ module _ (ph now e a b : ℕ) (pins ch : List ℕ) (in-time : eqb ph 7 || eqb ph
     known-b : p < 4 → (p / 2 ≡ b → ⊥) → changeTurn (at ph 0 now pins ch) (2 * e + 1) b ≡ at 8 0 now (set pins e (p % 2 + 2 * b)) (set ch e 1)
     known-b h n = rw (two-b, is, in-time, ne-eqb p 4 (omega arith), lt-ltb p 4 h, ne-eqb ((2 * e + 1) % 2) 0 (omega arith), ne-eqb (p / 2) b n)
 
-    first-a : p ≡ 4 → changeTurn (at ph 0 now pins ch) (2 * e) a ≡ at 8 (2 * e + 1) now (set pins e (4 + a)) (set ch e 1)
+    pub first-a : p ≡ 4 → changeTurn (at ph 0 now pins ch) (2 * e) a ≡ at 8 (2 * e + 1) now (set pins e (4 + a)) (set ch e 1)
     first-a h = rw (two-a, is, in-time, h, eq-eqb (2 * e % 2) 0 (omega arith))
 
     then-b : changeTurn (at ph (2 * e + 1) now pins ch) (2 * e + 1) b ≡ at 8 0 now (set pins e (p % 2 + 2 * b)) (set ch e 1)
@@ -283,7 +285,7 @@ abbrev due : Bool → ℕ → ℕ → List ℕ → List ℕ → List Step → Li
 due told now u pins ch ss = cond told (entriesFrom now pins ch ss) (entriesAt u 0 pins ch ++ entriesFrom now pins unchanged ss)
 
 abbrev Claim : List Step → Type 0
-Claim ss = (told : Bool) (now u ph : ℕ) (pins ch : List ℕ) → Good ss → There pins ss → length pins ≡ 20 → now % 25 ≡ 0 → Stands told ph u now
+Claim ss = (told : Bool) (now u ph : ℕ) (pins ch : List ℕ) (end : ℕ) → Good end now ss → There pins ss → length pins ≡ 20 → now % 25 ≡ 0 → Stands told ph u now
     → Tells (at ph 0 u pins ch) (bodyFrom told now pins ss) (due told now u pins ch ss)
 
 module _ (now u ph : ℕ) (pins ch : List ℕ) where
@@ -363,28 +365,29 @@ module _ (now u ph e v : ℕ) (pins ch : List ℕ) (ss : List Step) (d : now % 2
 
 pub body : (ss : List Step) → Claim ss
 unfolding bodyFrom entriesFrom
-body [] true now u ph pins ch g th l d s = no-steps-told now u ph pins ch s
-body [] false now u ph pins ch g th l d s = no-steps now u ph pins ch s
-body (Wait zero ∷ ss) true now u ph pins ch g th l d s = rw (add-zero now) (body ss true now u ph pins ch (g .1) th l d s)
-body (Wait zero ∷ ss) false now u ph pins ch g th l d s = rw (add-zero now) (body ss false now u ph pins ch (g .1) th l d s)
-body (Wait (suc t) ∷ ss) true now u ph pins ch g th l d s =
+body [] true now u ph pins ch end g th l d s = no-steps-told now u ph pins ch s
+body [] false now u ph pins ch end g th l d s = no-steps now u ph pins ch s
+body (Wait zero ∷ ss) true now u ph pins ch end g th l d s = rw (add-zero now) (body ss true now u ph pins ch end (rw (add-zero now) at g) th l d s)
+body (Wait zero ∷ ss) false now u ph pins ch end g th l d s = rw (add-zero now) (body ss false now u ph pins ch end (rw (add-zero now) at g) th l d s)
+body (Wait (suc t) ∷ ss) true now u ph pins ch end g th l d s =
     let now′ = now + 25 * suc t in
     let k : Stands false ph u now′ = rw (s .0, s .1, lt-ltb now now′ (omega arith)) in
     rw (ne-eqb (suc t) 0 (omega arith))
     (subst (λ (x : ℕ). Tells (at ph 0 u pins ch) (bodyFrom false now′ pins ss) (entriesAt x 0 pins ch ++ entriesFrom now′ pins unchanged ss)) (s .1)
-    (body ss false now′ u ph pins ch (g .1) th l (omega arith) k))
-body (Wait (suc t) ∷ ss) false now u ph pins ch g th l d s =
+    (body ss false now′ u ph pins ch end g th l (omega arith) k))
+body (Wait (suc t) ∷ ss) false now u ph pins ch end g th l d s =
     let now′ = now + 25 * suc t in
-    rw (ne-eqb (suc t) 0 (omega arith), none-told pins now 0 20) (body ss false now′ u ph pins ch (g .1) th l (omega arith) (later ph u now now′ (omega arith) s))
-body (Pins e v ∷ ss) told now u ph pins ch g th l d s =
-    pins-told now u ph e v pins ch ss d (th .0) (omega (arith, g .0 .0)) (g .0 .1)
-    (λ told u ph ch s. body ss told now u ph (set pins e v) ch (g .1) (there-set ss pins e v (omega (arith, g .0 .1)) (th .1)) (length-set pins e v ∙ l) d s)
+    rw (ne-eqb (suc t) 0 (omega arith), none-told pins now 0 20) (body ss false now′ u ph pins ch end g th l (omega arith) (later ph u now now′ (omega arith) s))
+body (Pins e v ∷ ss) told now u ph pins ch end g th l d s =
+    pins-told now u ph e v pins ch ss d (th .0) (omega (arith, g .0)) (g .1)
+    (λ told u ph ch s. body ss told now u ph (set pins e v) ch end (g .2) (there-set ss pins e v (omega (arith, g .1)) (th .1)) (length-set pins e v ∙ l) d s)
     told s
 
 -- the whole
-pub told-dump : (steps : List Step) → Good steps → toldBy (dumpOf steps) ≡ entries (entriesIn steps)
-unfolding toldBy dumpOf
-told-dump steps good =
-    let start = startOf steps in
-    let t = by-run opening (at 6 0 0 start unchanged) (headerOf start ++ bodyFrom false 0 start steps) (bodyFrom false 0 start steps) _ (header start (bodyFrom false 0 start steps) (long-start steps) (fresh-start steps)) (body steps false 0 0 6 start unchanged good (there-start steps good) (long-start steps) refl refl) in
-    rw (t .1) (ap entries (t .0 ∙ ap (λ (l : List Entry). l ++ entriesIn steps) (none-told start 0 0 20)))
+module _ (pins unknown : List ℕ) (steps : List Step) (end : ℕ) (long : length pins ≡ 20) (long′ : length unknown ≡ 20) (fresh : Fresh pins) (under : Under unknown pins)
+    (good : Good end 0 steps) (there : There pins steps) where
+  pub told-all : toldBy (headerOf pins unknown ++ bodyFrom false 0 pins steps) ≡ entries (entriesFrom 0 pins unchanged steps)
+  unfolding toldBy
+  told-all =
+      let t = by-run opening (at 6 0 0 pins unchanged) (headerOf pins unknown ++ bodyFrom false 0 pins steps) (bodyFrom false 0 pins steps) _ (header pins unknown (bodyFrom false 0 pins steps) long long′ fresh under) (body steps false 0 0 6 pins unchanged end good there long refl refl) in
+      rw (t .1) (ap entries (t .0 ∙ ap (λ (l : List Entry). l ++ entriesFrom 0 pins unchanged steps) (none-told pins 0 0 20)))

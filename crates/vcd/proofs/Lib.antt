@@ -2,4 +2,8 @@ pub mod Print
 pub mod Starts
 pub mod Heart
 pub mod Bound
+pub mod Parse
+pub mod Bodies
+pub mod Headers
+pub mod Readings
 pub mod Orders

@@ -5,22 +5,52 @@ use mathlib.Core.List.{List, [], _∷_, _++_, append-assoc, append-nil}
 use mathlib.Core.Logic.{_⊎_, inl, inr}
 use Prim.Native.Nat.{ℕ, zero, suc, _+_, _*_, _/_, _%_, _^_, _≤_, _<_}
 use native.Mathlib.Omega.{arith}
-use native.Mathlib.Nat.{add-zero}
 use lib.Dec.{eqb, ltb}
 use lib.ListN.{length, getD, set, length-set}
-use lib.Seq.{getD-set-same, getD-set-other}
+use lib.Seq.{append-snoc, getD-set-same, getD-set-other}
 use borrow.Author.Tests.{eqb-true, eqb-false, eq-eqb, ne-eqb, lt-ltb, le-ltb, ltb-true, ltb-false}
 use Rattle.vcd.specs.declared.Step.{Step}
 use Rattle.vcd.specs.declared.Step.the-variants.{Wait, Pins}
 use Rattle.vcd.specs.declared.Line.{Line}
 use Rattle.vcd.specs.declared.Line.the-variants.{Fixed, Var, Unknown, Time, Change, Other}
-use Rattle.vcd.specs.Dump.{declared, startOf, wiresFrom, headerOf, changeOf, changesOf, timed, bodyFrom, dumpOf, GoodStep, Good}
+use Rattle.vcd.specs.Dump.{declared, startOf, wiresFrom, headerOf, changeOf, changesOf, timed, bodyFrom, dumpOf, Good}
 use Rattle.vcd.specs.Entries.{entriesAt, entriesFrom}
-use Rattle.vcd.specs.Reader.{pinOf}
-use Rattle.vcd.specs.Facts.{timesIn, valuesOf, Rises, Alternates, Shown, AllShown, Page}
+use Rattle.vcd.specs.How.{pinOf}
+use Rattle.vcd.specs.Facts.{AllShown, Page}
 use Rattle.vcd.proofs.Starts.{Fresh, fresh-start, long-start}
 use Rattle.vcd.proofs.Heart.{no-change}
-use Rattle.vcd.proofs.Bound.{short-dump, read-back}
+use Rattle.vcd.proofs.Bound.{in-time}
+use Rattle.vcd.proofs.Headers.{regroup}
+use Rattle.vcd.proofs.Readings.{back-dump}
+
+-- the times of a dump, and the values of one wire, in order
+timesIn : List Line → List ℕ
+timesIn [] = []
+timesIn (Fixed k ∷ ls) = timesIn ls
+timesIn (Var w ∷ ls) = timesIn ls
+timesIn (Unknown w ∷ ls) = timesIn ls
+timesIn (Time t ∷ ls) = t ∷ timesIn ls
+timesIn (Change w b ∷ ls) = timesIn ls
+timesIn (Other ∷ ls) = timesIn ls
+
+valuesOf : ℕ → List Line → List ℕ
+valuesOf wire [] = []
+valuesOf wire (Fixed k ∷ ls) = valuesOf wire ls
+valuesOf wire (Var w ∷ ls) = valuesOf wire ls
+valuesOf wire (Unknown w ∷ ls) = valuesOf wire ls
+valuesOf wire (Time t ∷ ls) = valuesOf wire ls
+valuesOf wire (Change w b ∷ ls) = cond (eqb w wire) (b ∷ []) [] ++ valuesOf wire ls
+valuesOf wire (Other ∷ ls) = valuesOf wire ls
+
+-- each later than the one before, the first at least k, all below 2^48
+abbrev Rises : ℕ → List ℕ → Type 0
+Rises k [] = Unit {0}
+Rises k (t ∷ ts) = (k ≤ t) × (t < 2 ^ 48) × Rises (t + 1) ts
+
+-- each another than the one before, the first another than v
+abbrev Alternates : ℕ → List ℕ → Type 0
+Alternates v [] = Unit {0}
+Alternates v (b ∷ bs) = (v ≡ b → ⊥) × Alternates b bs
 
 -- ---- lists of lines in a row
 
@@ -88,26 +118,17 @@ unfolding timesIn valuesOf
 unknown-plain w = (refl, λ wire. refl)
 
 module _ (pins : List ℕ) (ls : List Line) where
-  abbrev second : List Line
-  second = Fixed 2 ∷ Fixed 3 ∷ Fixed 4 ∷ (wiresFrom Unknown 0 pins ++ Fixed 5 ∷ [])
-
-  regroup : headerOf pins ++ ls ≡ Fixed 0 ∷ Fixed 1 ∷ (wiresFrom Var 0 pins ++ Fixed 2 ∷ Fixed 3 ∷ Fixed 4 ∷ (wiresFrom Unknown 0 pins ++ Fixed 5 ∷ ls))
-  regroup =
-      ap (λ (ms : List Line). Fixed 0 ∷ Fixed 1 ∷ ms)
-      (append-assoc (wiresFrom Var 0 pins) second ls
-      ∙ ap (λ (ms : List Line). wiresFrom Var 0 pins ++ Fixed 2 ∷ Fixed 3 ∷ Fixed 4 ∷ ms) (append-assoc (wiresFrom Unknown 0 pins) (Fixed 5 ∷ []) ls))
-
-  header-times : timesIn (headerOf pins ++ ls) ≡ timesIn ls
+  header-times : timesIn (headerOf pins pins ++ ls) ≡ timesIn ls
   unfolding timesIn
   header-times =
-      ap timesIn regroup
+      ap timesIn (regroup pins pins ls)
       ∙ no-times Var var-plain pins 0 (Fixed 2 ∷ Fixed 3 ∷ Fixed 4 ∷ (wiresFrom Unknown 0 pins ++ Fixed 5 ∷ ls))
       ∙ no-times Unknown unknown-plain pins 0 (Fixed 5 ∷ ls)
 
-  header-values : (wire : ℕ) → valuesOf wire (headerOf pins ++ ls) ≡ valuesOf wire ls
+  header-values : (wire : ℕ) → valuesOf wire (headerOf pins pins ++ ls) ≡ valuesOf wire ls
   unfolding valuesOf
   header-values wire =
-      ap (valuesOf wire) regroup
+      ap (valuesOf wire) (regroup pins pins ls)
       ∙ no-values Var var-plain wire pins 0 (Fixed 2 ∷ Fixed 3 ∷ Fixed 4 ∷ (wiresFrom Unknown 0 pins ++ Fixed 5 ∷ ls))
       ∙ no-values Unknown unknown-plain wire pins 0 (Fixed 5 ∷ ls)
 
@@ -136,9 +157,6 @@ timed-values wire true now (l ∷ ls) = refl
 timed-values wire false now (l ∷ ls) = refl
 
 -- ---- the times
-
-abbrev Early : ℕ → List Step → Type 0
-Early now ss = now + 107374182400 * length ss < 2 ^ 48
 
 below : (k j : ℕ) (ts : List ℕ) → k ≤ j → Rises j ts → Rises k ts
 below k j [] h r = tt
@@ -182,17 +200,17 @@ module _ (e v now k : ℕ) (pins : List ℕ) (ss : List Step) (small : v < 4) (e
       by false q true h = other-rises true h
       by false q false h = other-rises false h
 
-body-rises : (ss : List Step) (told : Bool) (now k : ℕ) (pins : List ℕ) → Good ss → Early now ss → k ≤ now + cond told 1 0 → Rises k (timesIn (bodyFrom told now pins ss))
+body-rises : (ss : List Step) (told : Bool) (now k : ℕ) (pins : List ℕ) → Good (2 ^ 48) now ss → k ≤ now + cond told 1 0 → Rises k (timesIn (bodyFrom told now pins ss))
 unfolding bodyFrom timesIn
-body-rises [] told now k pins g s h = tt
-body-rises (Wait t ∷ ss) told now k pins g s h = body-rises ss (told && eqb t 0) (now + 25 * t) k pins (g .1) (omega (arith, g .0)) (go told (eqb t 0) refl h)
+body-rises [] told now k pins g h = tt
+body-rises (Wait t ∷ ss) told now k pins g h = body-rises ss (told && eqb t 0) (now + 25 * t) k pins g (go told (eqb t 0) refl h)
   where
     go : (told x : Bool) → eqb t 0 ≡ x → k ≤ now + cond told 1 0 → k ≤ now + 25 * t + cond (told && x) 1 0
     go true true q h = omega arith
     go true false q h = let n = eqb-false t 0 q in omega arith
     go false x q h = omega arith
-body-rises (Pins e v ∷ ss) told now k pins g s h =
-    pins-rises e v now k pins ss (g .0 .1) (omega arith) (λ j b. body-rises ss b now j (set pins e v) (g .1) (omega arith)) told h
+body-rises (Pins e v ∷ ss) told now k pins g h =
+    pins-rises e v now k pins ss (g .1) (in-time ss (2 ^ 48) now (g .2)) (λ j b. body-rises ss b now j (set pins e v) (g .2)) told h
 
 -- ---- the values of a wire
 
@@ -270,15 +288,15 @@ module _ (wire e v : ℕ) (pins : List ℕ) (vs : List ℕ) (small : v < 4) (in-
       by true false h k = let n = eqb-false (wire % 2) 0 k in on-b (omega (arith, eqb-true (wire / 2) e h))
       by false y h k = on-other (eqb-false (wire / 2) e h)
 
-body-alternates : (wire : ℕ) (ss : List Step) (told : Bool) (now : ℕ) (pins : List ℕ) → Good ss → length pins ≡ 20 → Alternates (valueIn pins wire) (valuesOf wire (bodyFrom told now pins ss))
+body-alternates : (wire : ℕ) (ss : List Step) (told : Bool) (now : ℕ) (pins : List ℕ) (end : ℕ) → Good end now ss → length pins ≡ 20 → Alternates (valueIn pins wire) (valuesOf wire (bodyFrom told now pins ss))
 unfolding bodyFrom valuesOf
-body-alternates wire [] told now pins g l = tt
-body-alternates wire (Wait t ∷ ss) told now pins g l = body-alternates wire ss (told && eqb t 0) (now + 25 * t) pins (g .1) l
-body-alternates wire (Pins e v ∷ ss) told now pins g l =
+body-alternates wire [] told now pins end g l = tt
+body-alternates wire (Wait t ∷ ss) told now pins end g l = body-alternates wire ss (told && eqb t 0) (now + 25 * t) pins end g l
+body-alternates wire (Pins e v ∷ ss) told now pins end g l =
     let p = getD pins e 0 in
     let rest = bodyFrom (told || not (eqb p v)) now (set pins e v) ss in
     rw (values-append wire (timed told now (changesOf e p v)) rest, timed-values wire told now (changesOf e p v))
-    (pins-alternates wire e v pins (valuesOf wire rest) (g .0 .1) (omega (arith, g .0 .0)) (body-alternates wire ss (told || not (eqb p v)) now (set pins e v) (g .1) (length-set pins e v ∙ l)))
+    (pins-alternates wire e v pins (valuesOf wire rest) (g .1) (omega (arith, g .0)) (body-alternates wire ss (told || not (eqb p v)) now (set pins e v) end (g .2) (length-set pins e v ∙ l)))
 
 -- ---- the whole
 
@@ -288,20 +306,20 @@ fresh-value [] i w f h = absurd (omega arith)
 fresh-value (x ∷ pins) zero w f h = rw (le-ltb x 4 (f .0 .0))
 fresh-value (x ∷ pins) (suc i) w f h = fresh-value pins i w (f .1) (omega arith)
 
-no-pins : (wire : ℕ) (ss : List Step) (told : Bool) (now : ℕ) (pins : List ℕ) → Good ss → 40 ≤ wire → valuesOf wire (bodyFrom told now pins ss) ≡ []
+no-pins : (wire : ℕ) (ss : List Step) (told : Bool) (now : ℕ) (pins : List ℕ) (end : ℕ) → Good end now ss → 40 ≤ wire → valuesOf wire (bodyFrom told now pins ss) ≡ []
 unfolding bodyFrom valuesOf
-no-pins wire [] told now pins g h = refl
-no-pins wire (Wait t ∷ ss) told now pins g h = no-pins wire ss (told && eqb t 0) (now + 25 * t) pins (g .1) h
-no-pins wire (Pins e v ∷ ss) told now pins g h =
+no-pins wire [] told now pins end g h = refl
+no-pins wire (Wait t ∷ ss) told now pins end g h = no-pins wire ss (told && eqb t 0) (now + 25 * t) pins end g h
+no-pins wire (Pins e v ∷ ss) told now pins end g h =
     let p = getD pins e 0 in
     let rest = bodyFrom (told || not (eqb p v)) now (set pins e v) ss in
-    rw (values-append wire (timed told now (changesOf e p v)) rest, timed-values wire told now (changesOf e p v), values-change wire e p v, ne-eqb (2 * e) wire (omega (arith, g .0 .0)), ne-eqb (2 * e + 1) wire (omega (arith, g .0 .0)), none-if (sameA wire e p v), none-if (sameB wire e p v))
-    (no-pins wire ss (told || not (eqb p v)) now (set pins e v) (g .1) h)
+    rw (values-append wire (timed told now (changesOf e p v)) rest, timed-values wire told now (changesOf e p v), values-change wire e p v, ne-eqb (2 * e) wire (omega (arith, g .0)), ne-eqb (2 * e + 1) wire (omega (arith, g .0)), none-if (sameA wire e p v), none-if (sameB wire e p v))
+    (no-pins wire ss (told || not (eqb p v)) now (set pins e v) end (g .2) h)
 
-module _ (steps : List Step) (good : Good steps) (few : length steps ≤ 2047) where
+module _ (steps : List Step) (good : Good (2 ^ 48) 0 steps) (few : length steps ≤ 2047) where
   all-rise : Rises 0 (timesIn (dumpOf steps))
   unfolding dumpOf
-  all-rise = rw (header-times (startOf steps) (bodyFrom false 0 (startOf steps) steps)) (body-rises steps false 0 0 (startOf steps) good (omega arith) (omega arith))
+  all-rise = rw (header-times (startOf steps) (bodyFrom false 0 (startOf steps) steps)) (body-rises steps false 0 0 (startOf steps) good (omega arith))
 
   all-alternate : (wire : ℕ) → Alternates 2 (valuesOf wire (dumpOf steps))
   unfolding dumpOf
@@ -312,15 +330,65 @@ module _ (steps : List Step) (good : Good steps) (few : length steps ≤ 2047) w
           let h = ltb-true wire 40 q in
           subst (λ (x : ℕ). Alternates x (valuesOf wire (bodyFrom false 0 (startOf steps) steps)))
           (fresh-value (startOf steps) (wire / 2) wire (fresh-start steps) (omega (arith, long-start steps)))
-          (body-alternates wire steps false 0 (startOf steps) good (long-start steps))
-      by false q = rw (no-pins wire steps false 0 (startOf steps) good (ltb-false wire 40 q)) tt
+          (body-alternates wire steps false 0 (startOf steps) (2 ^ 48) good (long-start steps))
+      by false q = rw (no-pins wire steps false 0 (startOf steps) (2 ^ 48) good (ltb-false wire 40 q)) tt
+
+-- ---- said of lines
+
+rising : (xs ys zs : List ℕ) (k s t : ℕ) → Rises k (xs ++ s ∷ ys ++ t ∷ zs) → s < t
+rising [] [] zs k s t r = omega (arith, r .2 .0)
+rising [] (b ∷ ys) zs k s t r = omega (arith, r .2 .0, rising [] ys zs (s + 1) b t (r .2))
+rising (a ∷ xs) ys zs k s t r = rising xs ys zs (a + 1) s t (r .2)
+
+early-in : (xs ys : List ℕ) (k t : ℕ) → Rises k (xs ++ t ∷ ys) → t < 2 ^ 48
+early-in [] ys k t r = r .1
+early-in (a ∷ xs) ys k t r = early-in xs ys (a + 1) t (r .2)
+
+alternating : (xs zs : List ℕ) (k u v : ℕ) → Alternates k (xs ++ u ∷ v ∷ zs) → u ≡ v → ⊥
+alternating [] zs k u v r = r .1 .0
+alternating (a ∷ xs) zs k u v r = alternating xs zs a u v (r .1)
+
+-- no change of a wire: no values
+module _ (w : ℕ) where
+  abbrev None : List Line → Type 0
+  None b = (d e : List Line) (x : ℕ) → b ≡ d ++ Change w x ∷ e → ⊥
+
+  none-tail : (l : Line) (b : List Line) → None (l ∷ b) → None b
+  none-tail l b n d e x q = n (l ∷ d) e x (ap (λ (z : List Line). l ∷ z) q)
+
+  no-value : (b : List Line) → None b → valuesOf w b ≡ []
+  unfolding valuesOf
+  no-value [] n = refl
+  no-value (Fixed k ∷ b) n = no-value b (none-tail (Fixed k) b n)
+  no-value (Var v ∷ b) n = no-value b (none-tail (Var v) b n)
+  no-value (Unknown v ∷ b) n = no-value b (none-tail (Unknown v) b n)
+  no-value (Time t ∷ b) n = no-value b (none-tail (Time t) b n)
+  no-value (Change v x ∷ b) n =
+      rw (ne-eqb v w (λ q. n [] b x (ap (λ (i : ℕ). Change i x ∷ b) q))) (no-value b (none-tail (Change v x) b n))
+  no-value (Other ∷ b) n = no-value b (none-tail Other b n)
+
+module _ (steps : List Step) (good : Good (2 ^ 48) 0 steps) (few : length steps ≤ 2047) where
+  early : (a b : List Line) (t : ℕ) → dumpOf steps ≡ a ++ Time t ∷ b → t < 2 ^ 48
+  unfolding timesIn
+  early a b t e = early-in (timesIn a) (timesIn b) 0 t (rw (e, times-append a (Time t ∷ b)) at (all-rise steps good few))
+
+  rises : (a b c : List Line) (s t : ℕ) → dumpOf steps ≡ a ++ Time s ∷ b ++ Time t ∷ c → s < t
+  unfolding timesIn
+  rises a b c s t e =
+      rising (timesIn a) (timesIn b) (timesIn c) 0 s t (rw (e, times-append (a ++ Time s ∷ b) (Time t ∷ c), times-append a (Time s ∷ b)) at (all-rise steps good few))
+
+  alternates : (a b c : List Line) (w u v : ℕ) → dumpOf steps ≡ a ++ Change w u ∷ b ++ Change w v ∷ c → None w b → u ≡ v → ⊥
+  unfolding valuesOf
+  alternates a b c w u v e n =
+      alternating (valuesOf w a) (valuesOf w c) 2 u v
+      (rw (e, values-append w (a ++ Change w u ∷ b) (Change w v ∷ c), values-append w a (Change w u ∷ b), eq-eqb w w refl, no-value w b n, append-snoc (valuesOf w a) u (v ∷ valuesOf w c)) at (all-alternate steps good few w))
 
 pub all-shown : AllShown
 all-shown steps good few = record {
-  back = read-back steps good few;
-  short = short-dump steps good few;
-  rises = all-rise steps good few;
-  alternates = all-alternate steps good few;
+  back = back-dump steps good few;
+  early = early steps good few;
+  rises = rises steps good few;
+  alternates = alternates steps good few;
 }
 
 pub page : Page

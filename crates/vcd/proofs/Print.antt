@@ -1,19 +1,20 @@
 -- Reading lines gives back what was written. Assumes nothing.
-use mathlib.Core.Path.{_≡_, refl, sym, ap, _∙_}
-use mathlib.Core.Bool.{Bool, true, false, _&&_, _||_, not, cond, false≢true}
+use mathlib.Core.Path.{_≡_, refl, ap, _∙_}
+use mathlib.Core.Bool.{Bool, true, false, _&&_, not, cond, false≢true}
 use mathlib.Core.List.{List, [], _∷_, _++_, append-nil}
-use Prim.Native.Nat.{ℕ, zero, suc, _+_, _-_, _*_, _/_, _%_, _^_, _≤_, _<_}
+use Prim.Native.Nat.{ℕ, zero, suc, _+_, _-_, _/_, _%_, _^_, _<_}
 use native.Mathlib.Omega.{arith}
 use lib.Dec.{eqb, ltb, leb}
-use lib.ListN.{length, getD, drop}
+use lib.ListN.{getD}
 use lib.Seq.{append-snoc}
 use borrow.Author.Tests.{lt-ltb, le-ltb, eq-eqb, ne-eqb, leb-true, ltb-true, ltb-false}
-use Rattle.decimal.specs.Decimal.{isDigit, areDigits, decimalOf}
+use Rattle.decimal.specs.Decimal.{areDigits}
 use Rattle.decimal.specs.Digits.{digitsOf}
-use Rattle.decimal.proofs.Back.{decimal-back, are-digits, first-digit, digits-small, some-digits}
+use Rattle.decimal.proofs.Back.{decimal-back, are-digits, first-digit, digits-small}
 use Rattle.vcd.specs.declared.Line.{Line}
 use Rattle.vcd.specs.declared.Line.the-variants.{Fixed, Var, Unknown, Time, Change, Other}
-use Rattle.vcd.specs.Lines.{timescale, scope, upscope, definitions, dumpvars, end, codeOf, varOf, printOf, textOf, same, wireOf, varWith, headOf, numberOf, timeOf, valueOf, changeIn, lineOf, linesFrom, linesOf}
+use Rattle.vcd.specs.Lines.{fixedLines, codeOf, varOf, printOf, textOf}
+use Rattle.vcd.specs.How.{same, wireOf, varWith, headOf, timeOf, valueOf, changeIn, lineOf, linesFrom, linesOf}
 
 -- the lines that a dump can have
 abbrev pub GoodLine : Line → Type 0
@@ -52,7 +53,7 @@ var-back : (w : ℕ) → w < 40 → varWith (varOf w) (wireOf (codeOf w)) ≡ Va
 var-back w h = rw (wire-back w h, lt-ltb w 40 h, same-refl (varOf w))
 
 head-var : (w : ℕ) → headOf (varOf w) ≡ varWith (varOf w) (wireOf (codeOf w))
-unfolding headOf same timescale scope upscope definitions dumpvars end varOf
+unfolding headOf same fixedLines varOf
 head-var w = refl
 
 change-back : (w b : ℕ) → w < 40 → b < 2 → valueOf (48 + b) (wireOf (codeOf w)) ≡ Change w b
@@ -71,7 +72,7 @@ time-back (suc t) h =
     rw (ne-eqb (getD (digitsOf (suc t)) 0 0) 48 (omega arith), decimal-back (suc t) h)
 
 pub line-back : (l : Line) → GoodLine l → lineOf (printOf l) ≡ l
-unfolding lineOf printOf headOf changeIn same timescale scope upscope definitions dumpvars end varOf
+unfolding lineOf printOf headOf changeIn same fixedLines varOf
 line-back (Fixed zero) h = refl
 line-back (Fixed (suc zero)) h = refl
 line-back (Fixed (suc (suc zero))) h = refl
@@ -102,7 +103,7 @@ digits-unbroken (b ∷ s) e = go (leb 48 b) (leb b 57) refl e (λ e′. digits-u
     go false y p e ih = absurd (false≢true e)
 
 pub line-unbroken : (l : Line) → GoodLine l → unbroken (printOf l) ≡ true
-unfolding unbroken printOf timescale scope upscope definitions dumpvars end varOf
+unfolding unbroken printOf fixedLines varOf
 line-unbroken (Fixed zero) h = refl
 line-unbroken (Fixed (suc zero)) h = refl
 line-unbroken (Fixed (suc (suc zero))) h = refl

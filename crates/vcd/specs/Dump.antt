@@ -1,7 +1,7 @@
 -- The dump of a log's steps: docs/WAVEFORM.md, sentence by sentence. Assumes nothing.
 use mathlib.Core.Bool.{Bool, false, _&&_, _||_, not, cond}
 use mathlib.Core.List.{List, [], _∷_, _++_, foldl}
-use Prim.Native.Nat.{ℕ, _+_, _*_, _/_, _%_, _<_, _^_}
+use Prim.Native.Nat.{ℕ, _+_, _*_, _/_, _%_, _<_}
 use lib.Dec.{eqb, ltb}
 use lib.ListN.{getD, set, replicate}
 use Rattle.vcd.specs.declared.Step.{Step}
@@ -25,10 +25,11 @@ unfoldable pub wiresFrom : (ℕ → Line) → ℕ → List ℕ → List Line
 wiresFrom line e [] = []
 wiresFrom line e (p ∷ ps) = cond (eqb p 5) [] (line (2 * e) ∷ line (2 * e + 1) ∷ []) ++ wiresFrom line (e + 1) ps
 
-abbrev pub headerOf : List ℕ → List Line
-headerOf pins =
+-- pins: of the encoders that are declared; unknown: of those with `x` lines
+abbrev pub headerOf : List ℕ → List ℕ → List Line
+headerOf pins unknown =
     Fixed 0 ∷ Fixed 1 ∷ (wiresFrom Var 0 pins
-    ++ Fixed 2 ∷ Fixed 3 ∷ Fixed 4 ∷ (wiresFrom Unknown 0 pins
+    ++ Fixed 2 ∷ Fixed 3 ∷ Fixed 4 ∷ (wiresFrom Unknown 0 unknown
     ++ Fixed 5 ∷ []))
 
 -- ---- the changes
@@ -55,14 +56,11 @@ bodyFrom told now pins (Pins e v ∷ ss) =
     ++ bodyFrom (told || not (eqb (getD pins e 0) v)) now (set pins e v) ss
 
 unfoldable pub dumpOf : List Step → List Line
-dumpOf steps = headerOf (startOf steps) ++ bodyFrom false 0 (startOf steps) steps
+dumpOf steps = headerOf (startOf steps) (startOf steps) ++ bodyFrom false 0 (startOf steps) steps
 
--- ---- the steps that a log can have
+-- ---- steps of 20 encoders and pins 0 to 3, that end before a time
 
-abbrev pub GoodStep : Step → Type 0
-GoodStep (Wait t) = t < 2 ^ 32
-GoodStep (Pins e v) = (e < 20) × (v < 4)
-
-abbrev pub Good : List Step → Type 0
-Good [] = Unit {0}
-Good (s ∷ ss) = GoodStep s × Good ss
+abbrev pub Good : ℕ → ℕ → List Step → Type 0
+Good end now [] = now < end
+Good end now (Wait t ∷ ss) = Good end (now + 25 * t) ss
+Good end now (Pins e v ∷ ss) = (e < 20) × (v < 4) × Good end now ss

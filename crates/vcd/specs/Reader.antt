@@ -1,108 +1,29 @@
--- The reader of a dump, line by line: docs/WAVEFORM.md, "The reader". Assumes nothing.
-use mathlib.Core.Bool.{Bool, _&&_, _||_, not, cond}
-use mathlib.Core.List.{List, [], _∷_, _++_, foldl}
-use Prim.Native.Nat.{ℕ, _+_, _*_, _/_, _%_}
-use lib.Dec.{eqb, ltb, leb}
-use lib.ListN.{length, getD, set, replicate}
-use Rattle.vcd.specs.declared.Line.{Line}
-use Rattle.vcd.specs.declared.Line.the-variants.{Fixed, Var, Unknown, Time, Change, Other}
-use Rattle.vcd.specs.declared.Reader.{Reader}
-use Rattle.vcd.specs.Lines.{linesOf}
-use Rattle.vcd.specs.Entries.{Entry, entriesAt, unchanged}
+-- The texts that the reader takes, and what it reads in them: docs/WAVEFORM.md, "The reader". Assumes nothing.
+use mathlib.Core.Path.{_≡_}
+use mathlib.Core.Bool.{false}
+use mathlib.Core.List.{List, _++_}
+use Prim.Native.Nat.{ℕ, _≤_, _^_}
+use lib.ListN.{length}
+use Rattle.vcd.specs.declared.Step.{Step}
+use Rattle.vcd.specs.Lines.{textOf}
+use Rattle.vcd.specs.Dump.{startOf, headerOf, bodyFrom, Good}
+use Rattle.vcd.specs.Entries.{Entry, unchanged, entriesFrom}
 
--- phases 0 to 5 await the fixed line of that number, 2 and 5 the wires before it; 6 the first time, 7 the first change at a time, 8 another
--- change or a later time; 9 has refused
-abbrev pub refused : Reader → Reader
-refused r = record { phase = 9; awaited = r .awaited; now = r .now; pins = r .pins; changed = r .changed }
+-- the text is the dump of some steps, and xs are the entries of these
+pub record Reads (text : List ℕ) (xs : List Entry) : Type 0 where
+  pub steps : List Step
+  -- "each time .. below 2^64"; "it does not ask whether 2,047 records would do"
+  pub good : Good (2 ^ 64) 0 steps
+  -- "nor that a declared encoder has its `x` lines or any change": encoders that have `x` lines, and more that are declared
+  pub unknown : List Step
+  pub more : List Step
+  pub pins : List ℕ
+  pub declared : pins ≡ startOf (more ++ unknown ++ steps)
+  pub dump : text ≡ textOf (headerOf pins (startOf unknown) ++ bodyFrom false 0 pins steps)
+  pub entries : xs ≡ entriesFrom 0 pins unchanged steps
+  -- "no more than 25,207 bytes"
+  pub short : length text ≤ 25207
 
--- "an encoder's two pins always together", in order: after an A just its B, else the A of a later encoder
-abbrev pub follows : ℕ → ℕ → Bool
-follows awaited w = cond (eqb (awaited % 2) 1) (eqb w awaited) (eqb (w % 2) 0 && leb awaited w)
-
-abbrev pub fixedTurn : Reader → ℕ → Reader
-fixedTurn r k =
-    cond (eqb (r .phase) k && (ltb k 6 && eqb (r .awaited % 2) 0))
-    (record { phase = k + 1; awaited = 0; now = r .now; pins = r .pins; changed = r .changed }) (refused r)
-
-abbrev pub varTurn : Reader → ℕ → Reader
-varTurn r w =
-    cond (eqb (r .phase) 2 && follows (r .awaited) w)
-    (record { phase = 2; awaited = w + 1; now = r .now; pins = set (r .pins) (w / 2) 4; changed = r .changed }) (refused r)
-
-abbrev pub unknownTurn : Reader → ℕ → Reader
-unknownTurn r w =
-    cond (eqb (r .phase) 5 && (follows (r .awaited) w && eqb (getD (r .pins) (w / 2) 0) 4))
-    (record { phase = 5; awaited = w + 1; now = r .now; pins = r .pins; changed = r .changed }) (refused r)
-
--- "each time a multiple of 25, .. later than the one before, with a change behind it"
-abbrev pub timeTurn : Reader → ℕ → Reader
-timeTurn r t =
-    cond ((eqb (r .phase) 6 || (eqb (r .phase) 8 && ltb (r .now) t)) && (eqb (r .awaited) 0 && eqb (t % 25) 0))
-    (record { phase = 7; awaited = 0; now = t; pins = r .pins; changed = unchanged }) (refused r)
-
--- a change to b of the wire w, whose encoder has the pins p: "an encoder's first change A's, B's on the next line", else of a wire
--- "that is there, to another value"
-abbrev pub pinOf : ℕ → ℕ → ℕ
-pinOf p w = cond (eqb (w % 2) 0) (p % 2) (p / 2)
-
-abbrev pub taken : ℕ → ℕ → ℕ → ℕ → Bool
-taken awaited p w b = cond (eqb awaited 0) (cond (eqb p 4) (eqb (w % 2) 0) (ltb p 4 && not (eqb (pinOf p w) b))) (eqb w awaited)
-
-abbrev pub pinned : ℕ → ℕ → ℕ → ℕ
-pinned p w b = cond (eqb (w % 2) 0) (2 * (p / 2) + b) (p % 2 + 2 * b)
-
-abbrev pub changeTurn : Reader → ℕ → ℕ → Reader
-changeTurn r w b =
-    let p = getD (r .pins) (w / 2) 0 in
-    cond ((eqb (r .phase) 7 || eqb (r .phase) 8) && taken (r .awaited) p w b)
-    (record {
-      phase = 8;
-      awaited = cond (eqb (r .awaited) 0 && eqb p 4) (w + 1) 0;
-      now = r .now;
-      pins = set (r .pins) (w / 2) (pinned p w b);
-      changed = set (r .changed) (w / 2) 1;
-    })
-    (refused r)
-
-unfoldable pub turnOf : Reader → Line → Reader
-turnOf r (Fixed k) = fixedTurn r k
-turnOf r (Var w) = varTurn r w
-turnOf r (Unknown w) = unknownTurn r w
-turnOf r (Time t) = timeTurn r t
-turnOf r (Change w b) = changeTurn r w b
-turnOf r Other = refused r
-
-abbrev pub opening : Reader
-opening = record { phase = 0; awaited = 0; now = 0; pins = replicate 20 5; changed = unchanged }
-
--- ---- what it tells: when a time comes, and at the end, each encoder that has changed
-
-abbrev pub standing : Reader → List Entry
-standing r = entriesAt (r .now) 0 (r .pins) (r .changed)
-
-unfoldable pub toldBefore : Reader → Line → List Entry
-toldBefore r (Fixed k) = []
-toldBefore r (Var w) = []
-toldBefore r (Unknown w) = []
-toldBefore r (Time t) = standing r
-toldBefore r (Change w b) = []
-toldBefore r Other = []
-
-unfoldable pub toldFrom : Reader → List Line → List Entry
-toldFrom r [] = standing r
-toldFrom r (l ∷ ls) = toldBefore r l ++ toldFrom (turnOf r l) ls
-
--- the end may come before any time, or after a change
-abbrev pub whole : Reader → Bool
-whole r = (eqb (r .phase) 6 || eqb (r .phase) 8) && eqb (r .awaited) 0
-
-pub data Told : Type 0 where
-  entries : List Entry → Told
-  refusal : Told
-
-unfoldable pub toldBy : List Line → Told
-toldBy ls = cond (whole (foldl turnOf opening ls)) (entries (toldFrom opening ls)) refusal
-
--- "no more than 25,207 bytes"
-unfoldable pub readOf : List ℕ → Told
-readOf text = cond (ltb 25207 (length text)) refusal (toldBy (linesOf text))
+-- a text is read in one way
+abbrev pub OneReading : Type 0
+OneReading = (text : List ℕ) (xs ys : List Entry) → Reads text xs → Reads text ys → xs ≡ ys

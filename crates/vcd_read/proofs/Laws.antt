@@ -14,7 +14,8 @@ use Rattle.decimal.specs.declared.Decimal.the-variants.{Number, NoNumber}
 use Rattle.decimal.specs.Decimal.{decimalOf}
 use Rattle.vcd.specs.declared.Line.{Line}
 use Rattle.vcd.specs.declared.Line.the-variants.{Fixed, Var, Unknown, Time, Change, Other}
-use Rattle.vcd.specs.Lines.{timescale, scope, upscope, definitions, dumpvars, end, varOf, same, wireOf, varWith, headOf, numberOf, timeOf, valueOf, changeIn, lineOf}
+use Rattle.vcd.specs.Lines.{varOf}
+use Rattle.vcd.specs.How.{same, wireOf, varWith, fixedAt, headOf, numberOf, timeOf, valueOf, changeIn, lineOf}
 use Rattle.vcd_read.specs.Bounds.{Bounded}
 
 -- ---- same
@@ -54,32 +55,32 @@ module _ (s line : List ℕ) (w : ℕ) (t : Bool) (h : w < 40) (is : line ≡ va
   pub var-other : t ≡ false → Other ≡ varWith s w
   var-other q = rw (lt-ltb w 40 h, ← is, ← e, q)
 
-module _ (s : List ℕ) (a : Bool) (e : a ≡ same s timescale) where
+module _ (s : List ℕ) (a : Bool) (e : a ≡ same s (fixedAt 0)) where
   pub head-0 : a ≡ true → Fixed 0 ≡ headOf s
   unfolding headOf
   head-0 q = rw (← e, q)
 
-  module _ (na : a ≡ false) (b : Bool) (f : b ≡ same s scope) where
+  module _ (na : a ≡ false) (b : Bool) (f : b ≡ same s (fixedAt 1)) where
     pub head-1 : b ≡ true → Fixed 1 ≡ headOf s
     unfolding headOf
     head-1 q = rw (← e, na, ← f, q)
 
-    module _ (nb : b ≡ false) (c : Bool) (g : c ≡ same s upscope) where
+    module _ (nb : b ≡ false) (c : Bool) (g : c ≡ same s (fixedAt 2)) where
       pub head-2 : c ≡ true → Fixed 2 ≡ headOf s
       unfolding headOf
       head-2 q = rw (← e, na, ← f, nb, ← g, q)
 
-      module _ (nc : c ≡ false) (d : Bool) (h : d ≡ same s definitions) where
+      module _ (nc : c ≡ false) (d : Bool) (h : d ≡ same s (fixedAt 3)) where
         pub head-3 : d ≡ true → Fixed 3 ≡ headOf s
         unfolding headOf
         head-3 q = rw (← e, na, ← f, nb, ← g, nc, ← h, q)
 
-        module _ (nd : d ≡ false) (x : Bool) (i : x ≡ same s dumpvars) where
+        module _ (nd : d ≡ false) (x : Bool) (i : x ≡ same s (fixedAt 4)) where
           pub head-4 : x ≡ true → Fixed 4 ≡ headOf s
           unfolding headOf
           head-4 q = rw (← e, na, ← f, nb, ← g, nc, ← h, nd, ← i, q)
 
-          module _ (nx : x ≡ false) (y : Bool) (j : y ≡ same s end) where
+          module _ (nx : x ≡ false) (y : Bool) (j : y ≡ same s (fixedAt 5)) where
             pub head-5 : y ≡ true → Fixed 5 ≡ headOf s
             unfolding headOf
             head-5 q = rw (← e, na, ← f, nb, ← g, nc, ← h, nd, ← i, nx, ← j, q)
@@ -169,12 +170,12 @@ bounded-var s w =
 bounded-head : (s : List ℕ) → Bounded (headOf s)
 unfolding headOf
 bounded-head s =
-    bounded-if (same s timescale) (Fixed 0) _ (λ q. omega arith)
-    (bounded-if (same s scope) (Fixed 1) _ (λ q. omega arith)
-    (bounded-if (same s upscope) (Fixed 2) _ (λ q. omega arith)
-    (bounded-if (same s definitions) (Fixed 3) _ (λ q. omega arith)
-    (bounded-if (same s dumpvars) (Fixed 4) _ (λ q. omega arith)
-    (bounded-if (same s end) (Fixed 5) _ (λ q. omega arith) (bounded-var s (wireOf (getD s 12 0))))))))
+    bounded-if (same s (fixedAt 0)) (Fixed 0) _ (λ q. omega arith)
+    (bounded-if (same s (fixedAt 1)) (Fixed 1) _ (λ q. omega arith)
+    (bounded-if (same s (fixedAt 2)) (Fixed 2) _ (λ q. omega arith)
+    (bounded-if (same s (fixedAt 3)) (Fixed 3) _ (λ q. omega arith)
+    (bounded-if (same s (fixedAt 4)) (Fixed 4) _ (λ q. omega arith)
+    (bounded-if (same s (fixedAt 5)) (Fixed 5) _ (λ q. omega arith) (bounded-var s (wireOf (getD s 12 0))))))))
 
 bounded-number : (d : Decimal) → Bounded (numberOf d)
 bounded-number (Number t) = tt

@@ -5,7 +5,7 @@ ghost use mathlib.Core.Path.{_≡_};
 ghost use Prim.Native.Nat.{_≤_};
 ghost use lib.ListN.{length, drop};
 ghost use Rattle.decimal.specs.Decimal.{decimalOf};
-ghost use Rattle.vcd.specs.Lines.{same as sameBytes, wireOf, varWith, headOf, numberOf, timeOf, valueOf, changeIn, lineOf};
+ghost use Rattle.vcd.specs.How.{same as sameBytes, wireOf, varWith, headOf, numberOf, timeOf, valueOf, changeIn, lineOf};
 ghost use Rattle.vcd_read.specs.Bounds.{Bounded};
 
 fn same(a: &[u8], b: &[u8]) -> bool

@@ -5,7 +5,7 @@ ghost use mathlib.Core.Path.{_≡_};
 ghost use mathlib.Core.Bool.{cond, _&&_};
 ghost use Prim.Native.Nat.{_+_, _<_};
 ghost use lib.Dec.{eqb};
-ghost use Rattle.vcd.specs.Reader.{refused as refusedOf, follows as followsOf, fixedTurn, varTurn, unknownTurn, timeTurn, pinOf, taken as takenOf, pinned as pinnedOf, changeTurn, turnOf, opening as openingOf, whole as wholeOf};
+ghost use Rattle.vcd.specs.How.{refused as refusedOf, follows as followsOf, fixedTurn, varTurn, unknownTurn, timeTurn, pinOf, taken as takenOf, pinned as pinnedOf, changeTurn, turnOf, opening as openingOf, whole as wholeOf};
 ghost use Rattle.vcd_read.specs.Bounds.{Bounded};
 
 pub fn opening() -> Reader

@@ -15,7 +15,7 @@ use Rattle.decimal.specs.Put.{Put}
 use Rattle.decimal.proofs.Puts.{put-nothing, put-then}
 use Rattle.vcd.specs.declared.Line.{Line}
 use Rattle.vcd.specs.declared.Line.the-variants.{Fixed, Var, Unknown, Time, Change}
-use Rattle.vcd.specs.Lines.{timescale, scope, upscope, definitions, dumpvars, end, codeOf, varOf, printOf, textOf}
+use Rattle.vcd.specs.Lines.{codeOf, varOf, printOf, textOf}
 use Rattle.vcd.specs.Dump.{wiresFrom, headerOf, changesOf, timed}
 use Rattle.vcd.proofs.Heart.{some-change, no-change}
 use Rattle.vcd.proofs.Bound.{text-append}
@@ -90,7 +90,7 @@ module _ (line : ℕ → Line) (out mid pins : List ℕ) (at end e : ℕ) where
 
 module _ (pins o a b c d e : List ℕ) (p q r s t : ℕ) (u : Put o 0 (textOf (Fixed 0 ∷ Fixed 1 ∷ [])) a p) (v : Put a p (textOf (wiresFrom (wireLine true) 0 pins)) b q)
     (w : Put b q (textOf (Fixed 2 ∷ Fixed 3 ∷ Fixed 4 ∷ [])) c r) (x : Put c r (textOf (wiresFrom (wireLine false) 0 pins)) d s) (y : Put d s (textOf (Fixed 5 ∷ [])) e t) where
-  pub header-put : Put o 0 (textOf (headerOf pins)) e t
+  pub header-put : Put o 0 (textOf (headerOf pins pins)) e t
   unfolding wireLine
   header-put =
       lines-then o a e (Fixed 0 ∷ Fixed 1 ∷ []) (wiresFrom Var 0 pins ++ Fixed 2 ∷ Fixed 3 ∷ Fixed 4 ∷ (wiresFrom Unknown 0 pins ++ Fixed 5 ∷ [])) 0 p t u

@@ -73,7 +73,7 @@ fn put_wires(out: &mut [u8], at: usize, declares: bool, pins: [u8; 20]) -> usize
 }
 
 pub fn header(out: &mut [u8], pins: [u8; 20]) -> usize
-    ensures { λ r. ⌜ Put (now (out .entry)) 0 (textOf (headerOf pins)) (now (out .exit)) r ⌝ }
+    ensures { λ r. ⌜ Put (now (out .entry)) 0 (textOf (headerOf pins pins)) (now (out .exit)) r ⌝ }
 {
     let a = text::put_word(out, 0, b"$timescale 1 ns $end\n$scope module pins $end\n");
     let b = put_wires(out, a, true, pins);

@@ -6,7 +6,7 @@ use Rattle.vcd_read.proofs.head.Statement.{statement}
 use Rattle.vcd_read.proofs.head.Tie as tie
 
 pub head-spec : {M : Type 1} → statement M
-unfolding lines.timescale lines.scope lines.upscope lines.definitions lines.dumpvars lines.end
+unfolding lines.fixedLines
 head-spec =
     tie.close
     (tie.spec

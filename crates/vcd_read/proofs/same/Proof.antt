@@ -3,7 +3,7 @@ use native.Mathlib.Omega.{arith}
 use mathlib.Core.Path.{_≡_, refl}
 use Prim.Native.Nat.{_-_, _≤_}
 use lib.ListN.{length, drop}
-use Rattle.vcd.specs.Lines.{same as sameBytes}
+use Rattle.vcd.specs.How.{same as sameBytes}
 use borrow.Author.Needs.{needs}
 use Rattle.vcd_read.proofs.Laws.{same-off, same-differ, same-next, same-done}
 use Rattle.vcd_read.proofs.same.Statement.{statement}

@@ -6,7 +6,7 @@ use Rattle.vcd_write.proofs.header.Statement.{statement}
 use Rattle.vcd_write.proofs.header.Tie as tie
 
 pub header-spec : {M : Type 1} → statement M
-unfolding lines.textOf lines.printOf lines.timescale lines.scope lines.upscope lines.definitions lines.dumpvars lines.end
+unfolding lines.textOf lines.printOf lines.fixedLines
 header-spec =
     tie.close
     (tie.spec

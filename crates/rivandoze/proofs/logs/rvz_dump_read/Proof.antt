@@ -11,4 +11,4 @@ rvz-dump-read-spec =
     (λ c κs. search needs)
     (λ c κs. search needs)
     (λ c. search needs)
-    (λ c. (search entries-word, search needs)))
+    (λ c. search entries-word))
