@@ -23,7 +23,7 @@ abbrev pub ratedIn : ℕ → ℕ × ℕ × ℕ
 ratedIn w = (w % 2 ^ 8, w / 2 ^ 32, w / 2 ^ 8 % 2 ^ 24)
 
 -- "Any two outcomes allowed by a contract are proved the same": numbers that say the same are the same
-pub record Settled : Type 0 where
+pub record WordsSettled : Type 0 where
   pub word : (k n v w : ℕ) → Word k n v → Word k n w → v ≡ w
   pub judged : (log ts : List ℕ) (v w : ℕ) → Judged log ts (judgedIn v) → Judged log ts (judgedIn w) → v ≡ w
   pub found-pwm : (f tol v w : ℕ) → Outcome (pwm 1_000) f tol (foundIn v) → Outcome (pwm 1_000) f tol (foundIn w) → v ≡ w
