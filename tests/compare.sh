@@ -7,6 +7,7 @@
 #   tests/compare.sh dump-seconds N                 the same by chance for N seconds
 #   tests/compare.sh write, shrink, sign, stream    these calls, which tests/write.sh and so on run
 #   tests/compare.sh write-seconds N                and likewise of the others
+#   tests/compare.sh every-seconds N                every call of the header, the rates too, by chance for N seconds in all, with its counts
 #   tests/compare.sh rerun CALL FILE OUT PATTERN PLACE EDITION
 #                                                   one log again, as a failed test has printed it
 # SEED chooses the logs, and CASES how many are by chance. Logs that fail are written to target/failed.
@@ -120,6 +121,31 @@ rates() {
     same 'compare: one wrong answer to a rate request is seen' "1 1" "$? $(grep -c ': wanted ' "$work/out")"
 }
 
+# every SECONDS: each call by chance for a seventh of them, the rates by one seed after the other; up to the first difference.
+every() {
+    local share=$(($1 / 7)) call end one=$seed
+    must 'compare: the answering program builds' build_answers
+    for call in '' dump- write- shrink- sign- stream-; do
+        "$programs/compare" "${call}seconds" "$share" "$seed" target/failed "${runner[@]}" "$drivers/plain" || return
+    done
+    end=$(($(date +%s) + share))
+    while [ "$(date +%s)" -lt "$end" ]; do
+        "$programs/compare-rates" "$one" "${runner[@]}" "$work/answers" || return
+        one=$((one + 1))
+    done
+}
+
+# counts: of what `every` has told, how much was compared.
+counts() {
+    awk '/^ok compare: .* logs,/ { for (i = 2; i <= NF; i++) { if ($i == "logs,") logs += $(i - 1); if ($i == "applied,") applied += $(i - 2) } }
+        /^ok compare: [0-9]+ rate requests/ { rates += $3 }
+        END { printf "compared: %d logs, transcripts, texts, runs to write and streams, %d records applied, %d rate requests\n", logs, applied, rates }'
+}
+
+build_answers() {
+    $cc -std=c99 -O2 -Wall -Wextra -Werror -Iinclude -o "$work/answers" check/rates/answers.c target/staticlib/librivandoze.a
+}
+
 # seen_by TOOL REPORT WRONGS DRIVER..: the tool ends a driver that does one of these, and says what it was.
 seen_by() {
     local wrong
@@ -186,8 +212,7 @@ case ${1:-} in
 '')
     build
     beside against compare full "${runner[@]}" "$drivers/plain"
-    must 'compare: the answering program builds' \
-        $cc -std=c99 -O2 -Wall -Wextra -Werror -Iinclude -o "$work/answers" check/rates/answers.c target/staticlib/librivandoze.a
+    must 'compare: the answering program builds' build_answers
     beside rates "${runner[@]}" "$work/answers"
     test_of_the_tests
     watched
@@ -231,6 +256,12 @@ stream)
 seconds | dump-seconds | write-seconds | shrink-seconds | sign-seconds | stream-seconds)
     build
     "$programs/compare" "$1" "${2:?a number of seconds}" "$seed" target/failed "${runner[@]}" "$drivers/plain" || failed=1
+    ;;
+every-seconds)
+    build
+    every "${2:?a number of seconds}" | tee "$work/every"
+    [ "${PIPESTATUS[0]}" -eq 0 ] || failed=1
+    counts <"$work/every"
     ;;
 rerun)
     build

@@ -86,35 +86,25 @@ pub fn refusal(edition: Edition, select: u64, c: I2c, r: Record) -> u8
 {
     match r {
         Record::WriteSelect(v) => select_refusal(edition.port, v),
-        Record::WriteEncoder { channel, value } => cnfg_refusal(
+        Record::WriteEncoder(channel, value) => cnfg_refusal(
             edition.quadrature,
             select::encoder_routed(edition.port, select, channel),
             value,
         ),
-        Record::WritePwm {
-            channel,
-            register: _,
-            value: _,
-        } => unrouted(select::pwm_routed(edition.port, select, channel)),
-        Record::WriteI2c { register, value: _ } => {
-            i2c_refusal(select::i2c_routed(edition.port, select), register, c)
-        }
-        Record::Answer(_) => unrouted(select::i2c_routed(edition.port, select)),
-        Record::ReadSelect => 0,
-        Record::ReadEncoder {
-            channel: _,
-            register: _,
-        } => 0,
-        Record::ReadPwm {
-            channel: _,
-            register: _,
-        } => 0,
-        Record::ReadI2c(_) => 0,
-        Record::Pins { channel, value: _ } => unrouted(select::encoder_routed(
+        Record::WritePwm(channel, _, _) => unrouted(select::pwm_routed(
             edition.port,
             select,
             channel,
         )),
+        Record::WriteI2c(register, _) => {
+            i2c_refusal(select::i2c_routed(edition.port, select), register, c)
+        }
+        Record::Answer(_) => unrouted(select::i2c_routed(edition.port, select)),
+        Record::ReadSelect => 0,
+        Record::ReadEncoder(_, _) => 0,
+        Record::ReadPwm(_, _) => 0,
+        Record::ReadI2c(_) => 0,
+        Record::Pins(channel, _) => unrouted(select::encoder_routed(edition.port, select, channel)),
         Record::Ticks(_) => 0,
     }
 }

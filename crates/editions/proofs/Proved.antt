@@ -10,6 +10,7 @@ use Rattle.fold.proofs.Laws as fold
 use lib.Dec.{eqb, leb}
 use borrow.Author.Tests.{eq-eqb, ne-eqb}
 use Rattle.edition.specs.Edition.{editionOf}
+use Rattle.edition.specs.declared.Edition.{Edition}
 use Rattle.wire.specs.Bytes.{byte, leOf, readsIn}
 use Rattle.wire.specs.declared.Record.{Record}
 use Rattle.wire.specs.Record.{bankOf, decodeOf, namedOf, writeOf, pinsOf}
@@ -17,7 +18,6 @@ use Rattle.wire.specs.Trailer.{trailerOf, recordsOf}
 use Rattle.wire.specs.declared.Trailer.the-variants.{Found}
 use Rattle.wire.specs.declared.Record.the-variants.{Ticks}
 use Rattle.wire.specs.declared.Decoded.the-variants.{Names, Refused as NoRecord}
-use Rattle.wire.proofs.Known.{ticks-named}
 use Rattle.laws.specs.Each.{mapFrom}
 use Rattle.select.specs.Select.{fieldOf, some, encoderRouted}
 use Rattle.encoder.specs.Encoder.{en, rst, mode, statOf, countsInQuadrature}
@@ -29,7 +29,7 @@ use Rattle.banks.specs.State.{fresh, bankAt, withBank, bothBanks}
 use Rattle.banks.proofs.Whole.{Both, holds-first}
 use Rattle.replay.specs.Replay.{played, playOf, replayFrom, replayOf}
 use Rattle.walk.specs.Turn.{decodedTurn, turnOf}
-use Rattle.walk.proofs.Replaying.{by-turn, ticking, banking, both-kept, lift-applies}
+use Rattle.walk.proofs.Replaying.{by-turn, ticking, ticked, banking, both-kept, lift-applies}
 use Rattle.editions.specs.Facts.{Editions}
 use Rattle.editions.proofs.Four.{record-no-ten}
 use Rattle.editions.proofs.Three.{as-two, Moded, moded-first, moded-next}
@@ -41,9 +41,8 @@ module _ (s : State) (r : List ℕ) where
   unfolding turnOf decodeOf
   two-is x e = ap (decodedTurn (editionOf 2) s r) e
 
-  two-ticks : (t : ℕ) → ticking (editionOf 2) s r (Ticks t) ≡ ticking (editionOf 3) s r (Ticks t)
-  unfolding bank.turnOf
-  two-ticks t = refl
+  abbrev ticks : Edition → Turn State ℕ
+  ticks e = goes (bothBanks (bank.onTicks e (leOf 8 r 8)) s)
 
   same-turn : applies (turnOf (editionOf 3) s r) ≡ true → turnOf (editionOf 2) s r ≡ turnOf (editionOf 3) s r
   same-turn =
@@ -52,10 +51,9 @@ module _ (s : State) (r : List ℕ) where
       both : (x : Record) → decodeOf (editionOf 3) r ≡ Names x → byte r 0 ≡ 4 → applies (ticking (editionOf 3) s r x) ≡ true
           → turnOf (editionOf 2) s r ≡ ticking (editionOf 3) s r x
       both x e four a =
-          let is = ticks-named (editionOf 3) r x e four in
           two-is x e
-          ∙ ap (λ (t : Bool). cond t (ticking (editionOf 2) s r x) (banking (editionOf 2) s r x)) (eq-eqb (byte r 0) 4 four)
-          ∙ ap (ticking (editionOf 2) s r) is ∙ two-ticks (leOf 8 r 8) ∙ ap (ticking (editionOf 3) s r) (sym is)
+          ∙ ap (λ (t : Bool). cond t (ticks (editionOf 2)) (banking (editionOf 2) s r x)) (eq-eqb (byte r 0) 4 four)
+          ∙ sym (ticked (editionOf 3) s r x e four)
 
       one : (x : Record) → decodeOf (editionOf 3) r ≡ Names x → (byte r 0 ≡ 4 → ⊥) → applies (banking (editionOf 3) s r x) ≡ true
           → turnOf (editionOf 2) s r ≡ banking (editionOf 3) s r x
@@ -63,7 +61,7 @@ module _ (s : State) (r : List ℕ) where
           let f = withBank (bankOf r) s in
           let b = bankAt (bankOf r) s in
           two-is x e
-          ∙ ap (λ (t : Bool). cond t (ticking (editionOf 2) s r x) (banking (editionOf 2) s r x)) (ne-eqb (byte r 0) 4 other)
+          ∙ ap (λ (t : Bool). cond t (ticks (editionOf 2)) (banking (editionOf 2) s r x)) (ne-eqb (byte r 0) 4 other)
           ∙ ap (lift f) (as-two b x (sym (lift-applies f (bank.turnOf (editionOf 3) b x)) ∙ a))
 
 -- a replay by its trailer

@@ -125,10 +125,6 @@ pub fn judge(log: &[u8], transcript: &[u8]) -> Verdict
     }
     match wire::find(log) {
         Trailer::Refused(n) => Verdict::Refused(n),
-        Trailer::Found {
-            start,
-            count: _,
-            edition: _,
-        } => compare(log, start, &out, transcript),
+        Trailer::Found(start, _, _) => compare(log, start, &out, transcript),
     }
 }

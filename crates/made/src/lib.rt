@@ -43,11 +43,7 @@ pub fn source_of(log: &[u8]) -> Source
             number: number,
             index: 0,
         },
-        Trailer::Found {
-            start,
-            count,
-            edition,
-        } => Source::Replays {
+        Trailer::Found(start, count, edition) => Source::Replays {
             start: start,
             count: count,
             edition: edition,
