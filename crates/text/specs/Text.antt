@@ -2,32 +2,31 @@
 use mathlib.Core.List.{List, [], _∷_, _++_}
 use Prim.Native.Nat.{ℕ, zero, suc, _-_, _/_, _^_}
 use lib.ListN.{length, drop}
+use Rattle.decimal.specs.Ascii.{ascii}
 use Rattle.decimal.specs.Digits.{digitsOf}
 use Rattle.wire.specs.Bytes.{leOf}
 
 -- the fixed words: "applied ", "refused ", "choice ", " x ", " period ", " " and " is no decimal number from 0 to "
 abbrev pub appliedWord : List ℕ
-appliedWord = 97 ∷ 112 ∷ 112 ∷ 108 ∷ 105 ∷ 101 ∷ 100 ∷ 32 ∷ []
+appliedWord = ascii "applied "
 
 abbrev pub refusedWord : List ℕ
-refusedWord = 114 ∷ 101 ∷ 102 ∷ 117 ∷ 115 ∷ 101 ∷ 100 ∷ 32 ∷ []
+refusedWord = ascii "refused "
 
 abbrev pub choiceWord : List ℕ
-choiceWord = 99 ∷ 104 ∷ 111 ∷ 105 ∷ 99 ∷ 101 ∷ 32 ∷ []
+choiceWord = ascii "choice "
 
 abbrev pub xWord : List ℕ
-xWord = 32 ∷ 120 ∷ 32 ∷ []
+xWord = ascii " x "
 
 abbrev pub periodWord : List ℕ
-periodWord = 32 ∷ 112 ∷ 101 ∷ 114 ∷ 105 ∷ 111 ∷ 100 ∷ 32 ∷ []
+periodWord = ascii " period "
 
 abbrev pub space : List ℕ
-space = 32 ∷ []
+space = ascii " "
 
 abbrev pub noDecimal : List ℕ
-noDecimal =
-    32 ∷ 105 ∷ 115 ∷ 32 ∷ 110 ∷ 111 ∷ 32 ∷ 100 ∷ 101 ∷ 99 ∷ 105 ∷ 109 ∷ 97 ∷ 108 ∷ 32 ∷ 110 ∷ 117 ∷ 109 ∷ 98 ∷ 101 ∷ 114 ∷ 32
-    ∷ 102 ∷ 114 ∷ 111 ∷ 109 ∷ 32 ∷ 48 ∷ 32 ∷ 116 ∷ 111 ∷ 32 ∷ []
+noDecimal = ascii " is no decimal number from 0 to "
 
 -- a line ends in a newline
 abbrev pub line : List ℕ → List ℕ
@@ -66,7 +65,7 @@ refusedText r = line (refusedWord ++ digitsOf r)
 
 -- `refused R record I`
 abbrev pub recordWord : List ℕ
-recordWord = 32 ∷ 114 ∷ 101 ∷ 99 ∷ 111 ∷ 114 ∷ 100 ∷ 32 ∷ []
+recordWord = ascii " record "
 
 abbrev pub refusedRecordText : ℕ → ℕ → List ℕ
 refusedRecordText r i = line (refusedWord ++ digitsOf r ++ recordWord ++ digitsOf i)
@@ -77,16 +76,16 @@ noNumberText name = name ++ line (noDecimal ++ digitsOf (2 ^ 64 - 1))
 -- ---- a verdict: `same`, `negated`, `both`, `different I`
 
 abbrev pub sameWord : List ℕ
-sameWord = 115 ∷ 97 ∷ 109 ∷ 101 ∷ []
+sameWord = ascii "same"
 
 abbrev pub negatedWord : List ℕ
-negatedWord = 110 ∷ 101 ∷ 103 ∷ 97 ∷ 116 ∷ 101 ∷ 100 ∷ []
+negatedWord = ascii "negated"
 
 abbrev pub bothWord : List ℕ
-bothWord = 98 ∷ 111 ∷ 116 ∷ 104 ∷ []
+bothWord = ascii "both"
 
 abbrev pub differentWord : List ℕ
-differentWord = 100 ∷ 105 ∷ 102 ∷ 102 ∷ 101 ∷ 114 ∷ 101 ∷ 110 ∷ 116 ∷ 32 ∷ []
+differentWord = ascii "different "
 
 abbrev pub differentText : ℕ → List ℕ
 differentText i = line (differentWord ++ digitsOf i)
