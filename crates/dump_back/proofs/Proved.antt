@@ -13,7 +13,8 @@ use Rattle.vcd.specs.Entries.{entriesIn}
 use Rattle.vcd.specs.Reader.{Reads}
 use Rattle.vcd.specs.Facts.{Shown}
 use Rattle.vcd.proofs.Orders.{all-shown}
-use Rattle.made.specs.Made.{replayed, madeOf, outputOf}
+use Rattle.replay.specs.Replay.{replayed}
+use Rattle.made.specs.Made.{madeOf, outputOf}
 use Rattle.made.specs.declared.Made.{Made}
 use Rattle.made.proofs.Makes.{whole-answer, whole-output}
 use Rattle.dump.specs.Dump.{stepsOf, dumpText}

@@ -13,7 +13,8 @@ use Rattle.vcd.specs.declared.Step.the-variants.{Wait, Pins as Seen}
 use Rattle.vcd.specs.Entries.{entriesIn}
 use Rattle.vcd.specs.Reader.{Reads}
 use Rattle.vcd.specs.Facts.{Shown}
-use Rattle.made.specs.Made.{replayed, madeOf, outputOf}
+use Rattle.replay.specs.Replay.{replayed}
+use Rattle.made.specs.Made.{madeOf, outputOf}
 use Rattle.dump.specs.Dump.{seenOf, stepsOf, dumpText}
 
 -- of a log that replays without refusal
