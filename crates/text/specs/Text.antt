@@ -6,28 +6,6 @@ use Rattle.decimal.specs.Ascii.{ascii}
 use Rattle.decimal.specs.Digits.{digitsOf}
 use Rattle.wire.specs.Bytes.{leOf}
 
--- the fixed words: "applied ", "refused ", "choice ", " x ", " period ", " " and " is no decimal number from 0 to "
-abbrev pub appliedWord : List ℕ
-appliedWord = ascii "applied "
-
-abbrev pub refusedWord : List ℕ
-refusedWord = ascii "refused "
-
-abbrev pub choiceWord : List ℕ
-choiceWord = ascii "choice "
-
-abbrev pub xWord : List ℕ
-xWord = ascii " x "
-
-abbrev pub periodWord : List ℕ
-periodWord = ascii " period "
-
-abbrev pub space : List ℕ
-space = ascii " "
-
-abbrev pub noDecimal : List ℕ
-noDecimal = ascii " is no decimal number from 0 to "
-
 -- a line ends in a newline
 abbrev pub line : List ℕ → List ℕ
 line s = s ++ 10 ∷ []
@@ -39,7 +17,7 @@ linesOf [] = []
 linesOf (v ∷ vs) = line (digitsOf v) ++ linesOf vs
 
 abbrev pub stopText : ℕ → ℕ → List ℕ
-stopText k r = line (appliedWord ++ digitsOf k ++ (32 ∷ refusedWord) ++ digitsOf r)
+stopText k r = line (ascii "applied " ++ digitsOf k ++ ascii " refused " ++ digitsOf r)
 
 abbrev pub textOf : List ℕ → ℕ → ℕ → List ℕ
 textOf vs k r = linesOf vs ++ stopText k r
@@ -55,37 +33,22 @@ readingsIn s = numbersIn (length s / 8) s
 -- ---- the rates: `choice C x X period P`, `40000000 P`, `refused R`, and what is said to a word that is no number
 
 abbrev pub pairText : ℕ → ℕ → ℕ → List ℕ
-pairText c x p = choiceWord ++ digitsOf c ++ line (xWord ++ digitsOf x ++ periodWord ++ digitsOf p)
+pairText c x p = ascii "choice " ++ digitsOf c ++ line (ascii " x " ++ digitsOf x ++ ascii " period " ++ digitsOf p)
 
 abbrev pub rateText : ℕ → ℕ → List ℕ
-rateText clock period = line (digitsOf clock ++ space ++ digitsOf period)
+rateText clock period = line (digitsOf clock ++ ascii " " ++ digitsOf period)
 
 abbrev pub refusedText : ℕ → List ℕ
-refusedText r = line (refusedWord ++ digitsOf r)
+refusedText r = line (ascii "refused " ++ digitsOf r)
 
 -- `refused R record I`
-abbrev pub recordWord : List ℕ
-recordWord = ascii " record "
-
 abbrev pub refusedRecordText : ℕ → ℕ → List ℕ
-refusedRecordText r i = line (refusedWord ++ digitsOf r ++ recordWord ++ digitsOf i)
+refusedRecordText r i = line (ascii "refused " ++ digitsOf r ++ ascii " record " ++ digitsOf i)
 
 abbrev pub noNumberText : List ℕ → List ℕ
-noNumberText name = name ++ line (noDecimal ++ digitsOf (2 ^ 64 - 1))
+noNumberText name = name ++ line (ascii " is no decimal number from 0 to " ++ digitsOf (2 ^ 64 - 1))
 
--- ---- a verdict: `same`, `negated`, `both`, `different I`
-
-abbrev pub sameWord : List ℕ
-sameWord = ascii "same"
-
-abbrev pub negatedWord : List ℕ
-negatedWord = ascii "negated"
-
-abbrev pub bothWord : List ℕ
-bothWord = ascii "both"
-
-abbrev pub differentWord : List ℕ
-differentWord = ascii "different "
+-- ---- a verdict: `different I`; the others are one word
 
 abbrev pub differentText : ℕ → List ℕ
-differentText i = line (differentWord ++ digitsOf i)
+differentText i = line (ascii "different " ++ digitsOf i)
