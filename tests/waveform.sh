@@ -110,6 +110,11 @@ made_logs() {
 
 page() {
     awk '/^```/ { inside = !inside; next } inside' docs/WAVEFORM.md >"$work/page.vcd"
+    printf '%s\n' 'write select 0xAAAAAAAAAA' 'bank 1 write select 10' 'ticks 4' 'pins encoder 3 0' 'ticks 4' 'pins encoder 3 1' 'pins encoder 3 3' \
+        'bank 1 pins encoder 0 2' 'ticks 0' 'bank 1 pins encoder 0 2' 'ticks 4' 'pins encoder 3 3' 'ticks 4' 'pins encoder 3 0' 'ticks 1000' 'trailer edition 2' |
+        "$second" from-text >"$work/log"
+    run64 target/bin/rvz dump <"$work/log" >"$work/dump.vcd"
+    same 'waveform: the dump of the log of docs/WAVEFORM.md, byte for byte' '' "$(cmp "$work/page.vcd" "$work/dump.vcd" 2>&1)"
     through 'the dump of docs/WAVEFORM.md' "$work/page.vcd"
     same 'waveform: the reader on the dump of docs/WAVEFORM.md' \
         '100 ns bank 0 encoder 3 pins 00

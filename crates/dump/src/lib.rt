@@ -9,8 +9,8 @@ ghost use lib.ListN.{length, take, drop};
 ghost use Rattle.decimal.specs.Put.{Put};
 ghost use Rattle.vcd.specs.Lines.{textOf};
 ghost use Rattle.vcd.specs.Dump.{startOf, bodyFrom};
-ghost use Rattle.fold.specs.Run.{going};
-ghost use Rattle.made.specs.Made.{madeBy, madeOf, outputBy, outputOf};
+ghost use Rattle.made.specs.Made.{madeOf, outputOf};
+ghost use Rattle.made.specs.How.{handedOf, handedIn};
 ghost use Rattle.dump.specs.Dump.{seenOf, dumpText};
 ghost use Rattle.dump.specs.How.{stepsIn, textIn, Ready};
 
@@ -107,8 +107,8 @@ fn write(log: &[u8], start: usize, n: usize, out: &mut [u8]) -> usize
 // Where every dump has room it is written in place, else into a buffer of our own first, so that 6 writes nothing.
 fn write_all(log: &[u8], start: usize, n: usize, out: &mut [u8]) -> Made
     requires { ⌜ Ready (now log) start n ⌝ }
-    ensures { λ r. ⌜ r ≡ madeBy going 0 (textIn (now (log .entry)) start n) (length (now (out .entry))) ⌝ }
-    ensures { λ _. ⌜ now (out .exit) ≡ outputBy going (textIn (now (log .entry)) start n) (now (out .entry)) ⌝ }
+    ensures { λ r. ⌜ r ≡ handedOf (textIn (now (log .entry)) start n) (length (now (out .entry))) ⌝ }
+    ensures { λ _. ⌜ now (out .exit) ≡ handedIn (textIn (now (log .entry)) start n) (now (out .entry)) ⌝ }
 {
     if 25207 <= out.len() {
         let size = write(log, start, n, out);

@@ -1,25 +1,24 @@
 -- The facts of specs/Facts.antt. Assumes nothing.
 use mathlib.Core.Path.{_≡_, refl, sym, ap, subst}
-use mathlib.Core.List.{List, [], _++_}
+use mathlib.Core.List.{List, _++_}
 use Prim.Native.Nat.{ℕ, _≤_}
 use lib.ListN.{length, take, drop}
 use lib.Seq.{take-at, drop-at}
 use borrow.Author.Tests.{le-leb}
-use Rattle.edition.specs.declared.Edition.{Edition}
 use Rattle.fold.specs.Run.{going}
 use Rattle.fold.specs.Output.{over}
-use Rattle.judge.proofs.Proved.{shown as judged}
 use Rattle.vcd.specs.Entries.{entriesIn}
 use Rattle.vcd.specs.Reader.{Reads}
 use Rattle.vcd.specs.Facts.{Shown}
 use Rattle.vcd.proofs.Orders.{all-shown}
-use Rattle.made.specs.Made.{replayed, madeOf, outputOf}
+use Rattle.replay.specs.Replay.{replayed}
+use Rattle.made.specs.Made.{madeOf, outputOf}
 use Rattle.made.specs.declared.Made.{Made}
 use Rattle.made.proofs.Makes.{whole-answer, whole-output}
 use Rattle.dump.specs.Dump.{stepsOf, dumpText}
 use Rattle.dump.proofs.Views.{seen-pins, seen-ticks}
 use Rattle.dump.proofs.Whole.{shown-log}
-use Rattle.dump_back.specs.Facts.{Dumps, AllDumps, NoSix, Sees}
+use Rattle.dump_back.specs.Facts.{Dumps}
 
 module _ (log : List ℕ) (goes : replayed log .course ≡ going) where
   is-shown : Shown (stepsOf log)
@@ -41,14 +40,10 @@ module _ (log : List ℕ) (goes : replayed log .course ≡ going) where
     read : Reads (take (madeOf dumpText log (length out) .size) (outputOf dumpText log out)) (entriesIn (stepsOf log))
     read = subst (λ (s : List ℕ). Reads s (entriesIn (stepsOf log))) (sym front) (is-shown .back)
 
-pub all-dumps : AllDumps
-all-dumps log goes = record {
-  shown = is-shown log goes;
-  written = λ out fits. (size-is log goes out fits, front log goes out fits, beyond log goes out fits, read log goes out fits);
+pub dumps : Dumps
+dumps = record {
+  shown = is-shown;
+  written = λ log out goes fits. (size-is log goes out fits, front log goes out fits, beyond log goes out fits, read log goes out fits);
+  pins = seen-pins;
+  ticks = seen-ticks;
 }
-
-pub no-six : NoSix
-no-six log = judged log [] .no-six
-
-pub sees : (o : Edition) (r : List ℕ) → Sees o r
-sees o r = record { pins = seen-pins o r; ticks = seen-ticks o r }

@@ -8,10 +8,11 @@ use lib.Dec.{leb}
 use lib.ListN.{length}
 use borrow.Author.Tests.{leb-true, leb-false}
 use Rattle.fold.specs.Output.{over}
-use Rattle.vcd.specs.Entries.{Entry, bytesOf}
+use Rattle.vcd.specs.Entries.{Entry}
 use Rattle.vcd.specs.Reader.{Reads}
 use Rattle.vcd.specs.How.{Told, entries, refusal, readOf}
 use Rattle.vcd.proofs.Readings.{reads-told, told-reads}
+use Rattle.dump_read.specs.How.{bytesOf}
 use Rattle.dump_read.specs.Reading.{Answer, Settled}
 
 module _ (text out : List ℕ) where

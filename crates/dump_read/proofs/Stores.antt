@@ -10,31 +10,32 @@ use lib.Dec.{eqb}
 use lib.ListN.{length, take, getD, set, replicate, length-append}
 use lib.Seq.{sets, length-sets, take-suc, take-all, length-take-le}
 use borrow.Author.Tests.{eq-eqb, ne-eqb}
+use Rattle.fold.specs.Run.{concat}
 use Rattle.decimal.specs.Put.{Put}
 use Rattle.wire.specs.Bytes.{leBytes}
 use Rattle.vcd.specs.declared.Line.{Line}
 use Rattle.vcd.specs.declared.Line.the-variants.{Fixed, Var, Unknown, Time, Change, Other}
 use Rattle.vcd.specs.declared.Reader.{Reader}
-use Rattle.vcd.specs.Entries.{Entry, entriesAt, entryBytes, bytesOf}
+use Rattle.vcd.specs.Entries.{Entry, entriesAt, entryBytes}
 use Rattle.vcd.specs.How.{turnOf, standing, toldBefore, toldFrom}
-use Rattle.dump_read.specs.How.{Stored}
+use Rattle.dump_read.specs.How.{bytesOf, Stored}
 
 sets-append : (s t out : List ℕ) (at : ℕ) → sets (sets out at s) (at + length s) t ≡ sets out at (s ++ t)
 sets-append [] t out at = rw add-zero
 sets-append (a ∷ s) t out at = rw (add-suc, ← suc-add at (length s)) (sets-append s t (set out at a) (suc at))
 
 pub bytes-append : (xs ys : List Entry) → bytesOf (xs ++ ys) ≡ bytesOf xs ++ bytesOf ys
-unfolding bytesOf
+unfolding concat
 bytes-append [] ys = refl
 bytes-append (x ∷ xs) ys = rw (bytes-append xs ys) (sym (append-assoc (entryBytes x) (bytesOf xs) (bytesOf ys)))
 
 pub bytes-long : (xs : List Entry) → length (bytesOf xs) ≡ 16 * length xs
-unfolding bytesOf
+unfolding concat
 bytes-long [] = refl
 bytes-long (x ∷ xs) = omega (arith, length-append (entryBytes x) (bytesOf xs), bytes-long xs)
 
 pub stored-none : (out : List ℕ) (n : ℕ) → Stored out n [] out n
-unfolding bytesOf
+unfolding concat
 stored-none out n = record { bytes = refl; number = sym (add-zero n) }
 
 pub stored-then : (a b c : List ℕ) (xs ys : List Entry) (m n k : ℕ) → Stored a m xs b n → Stored b n ys c k → Stored a m (xs ++ ys) c k
@@ -64,7 +65,7 @@ module _ (time e p c : ℕ) (out : List ℕ) (n : ℕ) where
 
   pub entry-some : (out′ x : List ℕ) (k : ℕ) → (c ≡ 0 → ⊥) → x ≡ entryBytes (record { time = time; encoder = e; pins = p }) → Put out (16 * n) x out′ k
       → Stored out n (entriesAt time e (p ∷ []) (c ∷ [])) out′ (n + 1)
-  unfolding entriesAt bytesOf
+  unfolding entriesAt concat
   entry-some out′ x k q is y = rw (ne-eqb c 0 q) (record { bytes = y .bytes ∙ ap (sets out (16 * n)) (is ∙ sym (append-nil _)); number = refl })
 
 -- ---- the encoders in turn

@@ -14,11 +14,11 @@ use Rattle.fold.specs.Output.{over}
 use Rattle.vcd.specs.declared.Line.{Line}
 use Rattle.vcd.specs.declared.Line.the-variants.{Other}
 use Rattle.vcd.specs.declared.Reader.{Reader}
-use Rattle.vcd.specs.Entries.{Entry, bytesOf}
+use Rattle.vcd.specs.Entries.{Entry}
 use Rattle.vcd.specs.How.{linesFrom, linesOf, refused, turnOf, opening, standing, toldBefore, toldFrom, whole, entries, refusal, toldBy, readOf}
 use Rattle.dump_read.specs.declared.Scan.{Scan}
 use Rattle.dump_read.specs.Reading.{Answer}
-use Rattle.dump_read.specs.How.{Stored, lineIn}
+use Rattle.dump_read.specs.How.{bytesOf, Stored, lineIn}
 use Rattle.dump_read.proofs.Stores.{bytes-long, stored-none, stored-then, stored-long}
 use Rattle.dump_read.proofs.Answers.{refusing, too-small, reading-all}
 

@@ -111,7 +111,7 @@ from-both s f = (f .two, f .each)
 pub state-first : FitsState fresh
 state-first = from-both fresh (holds-first FitsBank bank-first)
 
-turn-kept : (e : Edition) (s : State) (bytes : List ℕ) → FitsState s → FitsState (leaves s (turnOf e s bytes))
+pub turn-kept : (e : Edition) (s : State) (bytes : List ℕ) → FitsState s → FitsState (leaves s (turnOf e s bytes))
 turn-kept e s bytes f =
     let w = to-both s f in
     from-both _

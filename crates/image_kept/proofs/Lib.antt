@@ -1,2 +1,3 @@
 mod Blocks
 pub mod Keeping
+pub mod Readings

@@ -13,7 +13,8 @@ use Rattle.fold.specs.Run.{Course, going, stopped, tally}
 use Rattle.wire.specs.Bytes.{asks, readsIn}
 use Rattle.wire.specs.Trailer.{recordsOf}
 use Rattle.wire.proofs.Laws.{few-records}
-use Rattle.judge.specs.Judge.{plain, opposite, courseOf, Judged, refused, other-length, same, negated, both, different}
+use Rattle.replay.specs.Replay.{replayed}
+use Rattle.judge.specs.Judge.{plain, opposite, Judged, refused, other-length, same, negated, both, different}
 use Rattle.judge.specs.How.{Agree}
 use Rattle.judge.proofs.Numbers.{fewer}
 use Rattle.judge.proofs.Placed.{plain-long, opposite-long}
@@ -86,7 +87,7 @@ module _ (log ts : List ℕ) where
   index = an-index fits (alike ts (plain log)) .0
 
   answer : ℕ × ℕ × ℕ
-  answer = picked (courseOf log) (test fits) (test (alike ts (plain log))) (test (alike ts (opposite log))) index
+  answer = picked (replayed log .course) (test fits) (test (alike ts (plain log))) (test (alike ts (opposite log))) index
 
   is-answer : (a : ℕ × ℕ × ℕ) → Judged log ts a → a ≡ answer
   unfolding answer index Index picked
@@ -100,7 +101,7 @@ module _ (log ts : List ℕ) where
       let e : i ≡ index = one-first ts (plain log) i index (f, g) (an-index fits (alike ts (plain log)) .1 l p) in
       rw (c, passed fits l, failed (alike ts (plain log)) p, failed (alike ts (opposite log)) q, e)
 
-  an-answer : (c : Course) → courseOf log ≡ c → Dec (length ts ≡ length (plain log)) → Dec (ts ≡ plain log) → Dec (ts ≡ opposite log) → (a : ℕ × ℕ × ℕ) × Judged log ts a
+  an-answer : (c : Course) → replayed log .course ≡ c → Dec (length ts ≡ length (plain log)) → Dec (ts ≡ plain log) → Dec (ts ≡ opposite log) → (a : ℕ × ℕ × ℕ) × Judged log ts a
   an-answer (stopped k) c l p q = ((k, 0, 0), refused c)
   an-answer going c (no l) p q = ((17, 0, 0), other-length c l)
   an-answer going c (yes l) (yes p) (yes q) = ((0, 3, 0), both c p q)
@@ -111,13 +112,13 @@ module _ (log ts : List ℕ) where
       ((0, 4, f .0), different c l q (f .1 .0) (f .1 .1))
 
   pub there-is : (a : ℕ × ℕ × ℕ) × Judged log ts a
-  there-is = an-answer (courseOf log) refl fits (alike ts (plain log)) (alike ts (opposite log))
+  there-is = an-answer (replayed log .course) refl fits (alike ts (plain log)) (alike ts (opposite log))
 
   pub no-two : (a b : ℕ × ℕ × ℕ) → Judged log ts a → Judged log ts b → a ≡ b
   no-two a b p q = is-answer a p ∙ sym (is-answer b q)
 
   -- "both", and what it says
-  pub when-both : (a : ℕ × ℕ × ℕ) → a .1 ≡ 3 → Judged log ts a → (courseOf log ≡ going) × (ts ≡ plain log) × (ts ≡ opposite log)
+  pub when-both : (a : ℕ × ℕ × ℕ) → a .1 ≡ 3 → Judged log ts a → (replayed log .course ≡ going) × (ts ≡ plain log) × (ts ≡ opposite log)
   when-both a e (refused c) = absurd (omega arith)
   when-both a e (other-length c l) = absurd (omega arith)
   when-both a e (same c p q) = absurd (omega arith)
@@ -155,7 +156,7 @@ small-index log ts a (different {i} c l q f g) =
 
 -- ---- two logs that replay alike
 
-pub carried : (log other ts : List ℕ) (a : ℕ × ℕ × ℕ) → courseOf log ≡ courseOf other → plain log ≡ plain other → opposite log ≡ opposite other
+pub carried : (log other ts : List ℕ) (a : ℕ × ℕ × ℕ) → replayed log .course ≡ replayed other .course → plain log ≡ plain other → opposite log ≡ opposite other
     → Judged log ts a → Judged other ts a
 carried log other ts a e p q (refused c) = refused (sym e ∙ c)
 carried log other ts a e p q (other-length c l) = other-length (sym e ∙ c) (λ m. l (m ∙ ap length (sym p)))

@@ -16,10 +16,10 @@ use Rattle.wire.specs.Bytes.{leOf, leBytes, asks, readsIn}
 use Rattle.wire.specs.Trailer.{recordsOf, editionIn}
 use Rattle.banks.specs.declared.State.{State}
 use Rattle.banks.specs.State.{fresh}
-use Rattle.replay.specs.Replay.{played}
+use Rattle.replay.specs.Replay.{played, replayed}
 use Rattle.walk.specs.Turn.{turnOf}
 use Rattle.replay.proofs.Numbers as numbers
-use Rattle.judge.specs.Judge.{neg, ofCntr, negating, plain, opposite, courseOf}
+use Rattle.judge.specs.Judge.{neg, ofCntr, negating, plain, opposite}
 use Rattle.judge.proofs.Numbers.{said, said-small, reading-at}
 use Rattle.judge.proofs.Records.{reads-exactly, cntr-small}
 
@@ -93,7 +93,7 @@ said-turned false v h = refl
 
 -- ---- in the transcripts of a log that replays without refusal
 
-module _ (log : List ℕ) (accepted : courseOf log ≡ going) where
+module _ (log : List ℕ) (accepted : replayed log .course ≡ going) where
   abbrev T : State → List ℕ → Turn State ℕ
   T = turnOf (editionIn log)
 

@@ -17,12 +17,12 @@ use Rattle.wire.specs.declared.Trailer.the-variants.{Found, Refused}
 use Rattle.wire.proofs.Laws.{one-to-five}
 use Rattle.banks.specs.declared.State.{State}
 use Rattle.banks.specs.State.{fresh}
-use Rattle.replay.specs.Replay.{replayFrom, replayOf}
+use Rattle.replay.specs.Replay.{replayFrom, replayOf, replayed}
 use Rattle.walk.specs.Turn.{turnOf}
 use Rattle.walk.proofs.Numbers.{Number, run-number}
 use Rattle.replay.proofs.Notes.{same-records, same-edition}
-use Rattle.replay.proofs.Proved as replayed
-use Rattle.judge.specs.Judge.{negating, plain, opposite, courseOf, Judged, same, negated, both}
+use Rattle.replay.proofs.Proved as replays
+use Rattle.judge.specs.Judge.{negating, plain, opposite, Judged, same, negated, both}
 use Rattle.judge.specs.Facts.{Shown}
 use Rattle.judge.proofs.Answers as answers
 use Rattle.judge.proofs.Still.{still-only, still-same}
@@ -32,7 +32,7 @@ not-six (inl h) = omega arith
 not-six (inr (inl e)) = omega arith
 not-six (inr (inr e)) = omega arith
 
-never-six : (log : List ℕ) → courseOf log ≡ stopped 6 → ⊥
+never-six : (log : List ℕ) → replayed log .course ≡ stopped 6 → ⊥
 unfolding replayOf replayFrom
 never-six log six = by (trailerOf log) refl
   where
@@ -42,7 +42,7 @@ never-six log six = by (trailerOf log) refl
         let k-is : k ≡ 6 = cc in
         omega (arith, one-to-five log k e)
     by (Found a n o) e =
-        let run = replayed.replayed log a n o 16_384 e (omega (arith, answers.has-room log)) in
+        let run = replays.replayed log a n o 16_384 e (omega (arith, answers.has-room log)) in
         not-six (run-number (editionIn log) fresh (recordsOf log) 6 (sym (ap (λ (x : Run State ℕ). x .course) run) ∙ six))
 
 pub shown : (log ts : List ℕ) → Shown log ts
@@ -57,7 +57,7 @@ shown log ts =
 
 -- ---- the readings' own bytes, their negation; the negation of that is `negated-twice`
 
-module _ (log : List ℕ) (c : courseOf log ≡ going) where
+module _ (log : List ℕ) (c : replayed log .course ≡ going) where
   itself : Judged log (plain log) (0, 1, 0) ⊎ Judged log (plain log) (0, 3, 0)
   itself = by (answers.alike (plain log) (opposite log))
     where
@@ -78,7 +78,7 @@ notes-ignored : (notes other tail ts : List ℕ) (a : ℕ × ℕ × ℕ) → len
     → 8 ≤ length tail → leOf 4 tail (length tail - 8) ≤ length tail - 8 → Judged (notes ++ tail) ts a → Judged (other ++ tail) ts a
 notes-ignored notes other tail ts a p q short back =
     answers.carried (notes ++ tail) (other ++ tail) ts a
-    (ap (λ (x : Run State ℕ). x .course) (replayed.notes-ignored notes other tail 16_384 p q short back))
+    (ap (λ (x : Run State ℕ). x .course) (replays.notes-ignored notes other tail 16_384 p q short back))
     (same turnOf) (same (λ (o : Edition). negating (turnOf o)))
   where
     records : recordsOf (notes ++ tail) ≡ recordsOf (other ++ tail)

@@ -18,9 +18,9 @@ use Rattle.wire.specs.Bytes.{leOf, leBytes, readsIn}
 use Rattle.wire.specs.Trailer.{recordsOf, editionIn}
 use Rattle.banks.specs.declared.State.{State}
 use Rattle.banks.specs.State.{fresh}
-use Rattle.replay.specs.Replay.{played}
+use Rattle.replay.specs.Replay.{played, replayed}
 use Rattle.walk.specs.Turn.{turnOf}
-use Rattle.judge.specs.Judge.{neg, ofCntr, negating, plain, opposite, courseOf}
+use Rattle.judge.specs.Judge.{neg, ofCntr, negating, plain, opposite}
 use Rattle.judge.specs.How.{transcriptBy}
 use Rattle.judge.specs.Facts.{Still}
 use Rattle.judge.proofs.Numbers.{said, said-small}
@@ -53,7 +53,7 @@ twice-neg v h = omega arith
 
 -- ---- the transcripts are the same only where each CNTR reading stands still
 
-module _ (log : List ℕ) (accepted : courseOf log ≡ going) where
+module _ (log : List ℕ) (accepted : replayed log .course ≡ going) where
   pub still-only : plain log ≡ opposite log → Still (editionIn log) (recordsOf log)
   still-only e before later r v cut c read =
       let small = cntr-small (editionIn log) (played (editionIn log) before .state) r v c read in
@@ -95,7 +95,7 @@ module _ (turn : State → List ℕ → Turn State ℕ) where
           (ap (λ (l : List ℕ). given x ++ l)
           (ih (λ before later q v e c read. s (r ∷ before) later q v (ap (λ (l : List (List ℕ)). r ∷ l) e) c (ap (λ (y : Run State ℕ). turn (y .state) q) (first-applied turn b r before a) ∙ read))))
 
-pub still-same : (log : List ℕ) → courseOf log ≡ going → Still (editionIn log) (recordsOf log) → plain log ≡ opposite log
+pub still-same : (log : List ℕ) → replayed log .course ≡ going → Still (editionIn log) (recordsOf log) → plain log ≡ opposite log
 unfolding StillFrom
 still-same log accepted s = sym (ap (bytesOf (leBytes 8)) (same-readings (turnOf (editionIn log)) fresh (recordsOf log) (goes-through log accepted) s))
 

@@ -19,12 +19,12 @@ use Rattle.wire.specs.declared.Trailer.{Trailer}
 use Rattle.wire.specs.declared.Trailer.the-variants.{Found, Refused as NoTrailer}
 use Rattle.wire.proofs.Laws.{found-within}
 use Rattle.banks.specs.declared.State.{State}
-use Rattle.replay.specs.Replay.{played, replayFrom, replayOf}
+use Rattle.replay.specs.Replay.{played, replayFrom, replayOf, replayed}
 use Rattle.walk.specs.Turn.{written}
 use Rattle.replay.proofs.Numbers.{accepted}
-use Rattle.replay.proofs.Proved as replayed
+use Rattle.replay.proofs.Proved as replays
 use Rattle.judge.specs.declared.Verdict.the-variants.{Refused}
-use Rattle.judge.specs.Judge.{plain, courseOf, refused, other-length, Answer}
+use Rattle.judge.specs.Judge.{plain, refused, other-length, Answer}
 use Rattle.judge.specs.How.{Ready}
 
 -- the readings are in the output
@@ -36,27 +36,27 @@ few log room x out out′ is wrote =
     omega (arith, ap (λ (s : Stop). s .readings) is, length-bytes (leBytes 8) (λ v. refl) vs, ap length wrote, length-append bytes (drop (length bytes) out))
 
 module _ (log : List ℕ) (room : ℕ) (enough : room ≡ 16_384) (x : Stop) (is : x ≡ stopOf (replayOf log room)) where
-  number : x .refused ≡ numberOf (courseOf log)
+  number : x .refused ≡ numberOf (replayed log .course)
   unfolding stopOf
   number = ap (λ (s : Stop). s .refused) is ∙ ap (λ (n : ℕ). numberOf (replayOf log n .course)) enough
 
-  long : (courseOf log ≡ going) → 8 * x .readings ≡ length (plain log)
+  long : (replayed log .course ≡ going) → 8 * x .readings ≡ length (plain log)
   unfolding stopOf
   long a =
       omega (arith, ap (λ (s : Stop). s .readings) is, ap (λ (n : ℕ). length (replayOf log n .readings)) enough, ap (λ (r : Run State ℕ). length (r .readings)) (accepted log 16_384 a), length-bytes (leBytes 8) (λ v. refl) (played (editionIn log) (recordsOf log) .readings))
 
   -- a refusal's number is not 0
-  goes-through : x .refused ≡ 0 → courseOf log ≡ going
-  goes-through z = by (courseOf log) refl
+  goes-through : x .refused ≡ 0 → replayed log .course ≡ going
+  goes-through z = by (replayed log .course) refl
     where
-      by : (c : Course) → courseOf log ≡ c → c ≡ going
+      by : (c : Course) → replayed log .course ≡ c → c ≡ going
       by going c = refl
-      by (stopped k) c = absurd (let h = ap numberOf c in omega (arith, number, replayed.refusal-some log 16_384 k c .0))
+      by (stopped k) c = absurd (let h = ap numberOf c in omega (arith, number, replays.refusal-some log 16_384 k c .0))
 
-  stops : (x .refused ≡ 0 → ⊥) → courseOf log ≡ stopped (x .refused)
-  stops d = by (courseOf log) refl
+  stops : (x .refused ≡ 0 → ⊥) → replayed log .course ≡ stopped (x .refused)
+  stops d = by (replayed log .course) refl
     where
-      by : (c : Course) → courseOf log ≡ c → c ≡ stopped (x .refused)
+      by : (c : Course) → replayed log .course ≡ c → c ≡ stopped (x .refused)
       by going c = absurd (d (number ∙ ap numberOf c))
       by (stopped k) c = ap stopped (sym (number ∙ ap numberOf c))
 
@@ -76,10 +76,10 @@ module _ (log : List ℕ) (room : ℕ) (enough : room ≡ 16_384) (x : Stop) (is
             rw h (other-length a (λ q. eqb-false (length ts) (8 * x .readings) (sym f) (q ∙ sym (long a))))
         by false f z g h = rw h (refused (stops (eqb-false (x .refused) 0 z)))
 
-    accepts : n ≡ 0 → (courseOf log ≡ going) × (length ts ≡ length (plain log))
+    accepts : n ≡ 0 → (replayed log .course ≡ going) × (length ts ≡ length (plain log))
     accepts o = by (eqb (x .refused) 0) fits refl told e
       where
-        by : (z f : Bool) → eqb (x .refused) 0 ≡ z → f ≡ eqb (length ts) (8 * x .readings) → n ≡ cond z (cond f 0 17) (x .refused) → (courseOf log ≡ going) × (length ts ≡ length (plain log))
+        by : (z f : Bool) → eqb (x .refused) 0 ≡ z → f ≡ eqb (length ts) (8 * x .readings) → n ≡ cond z (cond f 0 17) (x .refused) → (replayed log .course ≡ going) × (length ts ≡ length (plain log))
         by true true z f h =
             let a = goes-through (eqb-true (x .refused) 0 z) in
             (a, eqb-true (length ts) (8 * x .readings) (sym f) ∙ long a)

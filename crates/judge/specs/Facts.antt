@@ -9,9 +9,9 @@ use Rattle.edition.specs.declared.Edition.{Edition}
 use Rattle.fold.specs.Turn.{reads}
 use Rattle.fold.specs.Run.{going, stopped}
 use Rattle.wire.specs.Trailer.{recordsOf, editionIn}
-use Rattle.replay.specs.Replay.{played}
+use Rattle.replay.specs.Replay.{played, replayed}
 use Rattle.walk.specs.Turn.{turnOf}
-use Rattle.judge.specs.Judge.{ofCntr, plain, courseOf, Judged}
+use Rattle.judge.specs.Judge.{ofCntr, plain, Judged}
 
 -- "all counts 0 or 2^31, or no such reading": what each record reads that reads an encoder's CNTR
 abbrev pub Still : Edition → List (List ℕ) → Type 0
@@ -23,7 +23,7 @@ pub record Shown (log ts : List ℕ) : Type 0 where
   pub one : (a : ℕ × ℕ × ℕ) × Judged log ts a
   pub alone : (a b : ℕ × ℕ × ℕ) → Judged log ts a → Judged log ts b → a ≡ b
   -- "6 is not given here"
-  pub no-six : courseOf log ≡ stopped 6 → ⊥
+  pub no-six : replayed log .course ≡ stopped 6 → ⊥
   -- "both": the transcript is the readings, and their negation leaves them as they are
   pub when-both : Judged log ts (0, 3, 0) → (ts ≡ plain log) × Still (editionIn log) (recordsOf log)
-  pub both-when : courseOf log ≡ going → ts ≡ plain log → Still (editionIn log) (recordsOf log) → Judged log ts (0, 3, 0)
+  pub both-when : replayed log .course ≡ going → ts ≡ plain log → Still (editionIn log) (recordsOf log) → Judged log ts (0, 3, 0)

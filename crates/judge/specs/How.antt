@@ -12,7 +12,8 @@ use Rattle.banks.specs.declared.State.{State}
 use Rattle.banks.specs.State.{fresh}
 use Rattle.wire.specs.Trailer.{trailerOf, recordsOf}
 use Rattle.wire.specs.declared.Trailer.the-variants.{Found}
-use Rattle.judge.specs.Judge.{plain, courseOf}
+use Rattle.replay.specs.Replay.{replayed}
+use Rattle.judge.specs.Judge.{plain}
 use Rattle.judge.specs.declared.Verdict.{Verdict}
 use Rattle.judge.specs.declared.Verdict.the-variants.{Same, Different}
 
@@ -30,7 +31,7 @@ pub record Ready (log : List ℕ) (start : ℕ) (out ts : List ℕ) : Type 0 whe
   pub edition : ℕ
   pub found : trailerOf log ≡ Found start records edition
   pub within : start + 16 * records ≤ length log
-  pub accepted : courseOf log ≡ going
+  pub accepted : replayed log .course ≡ going
   pub wrote : take (length (plain log)) out ≡ plain log
   pub long : length ts ≡ length (plain log)
 

@@ -7,13 +7,13 @@ use mathlib.Core.Bool.{Bool, cond, _&&_}
 use lib.ListN.{length, take}
 use lib.Dec.{eqb}
 use Rattle.fold.specs.Turn.{Turn, retell}
-use Rattle.fold.specs.Run.{Course, going, stopped, runOf}
+use Rattle.fold.specs.Run.{going, stopped, runOf}
 use Rattle.fold.specs.Output.{bytesOf}
 use Rattle.wire.specs.Bytes.{byte, leBytes}
 use Rattle.wire.specs.Trailer.{recordsOf, editionIn}
 use Rattle.banks.specs.declared.State.{State}
 use Rattle.banks.specs.State.{fresh}
-use Rattle.replay.specs.Replay.{played, replayOf}
+use Rattle.replay.specs.Replay.{played, replayed}
 use Rattle.walk.specs.Turn.{turnOf}
 use Rattle.judge.specs.declared.Verdict.{Verdict}
 use Rattle.judge.specs.declared.Verdict.the-variants.{Same, Negated, Both, Different, Refused}
@@ -37,22 +37,18 @@ plain log = bytesOf (leBytes 8) (played (editionIn log) (recordsOf log) .reading
 abbrev pub opposite : List ℕ → List ℕ
 opposite log = bytesOf (leBytes 8) (runOf (negating (turnOf (editionIn log))) fresh (recordsOf log) .readings)
 
--- how the log's replay ends, with room for each of its readings, so that "6 is not given here"
-abbrev pub courseOf : List ℕ → Course
-courseOf log = replayOf log 16_384 .course
-
 -- What is answered to a log and a transcript ts, in numbers: the refusal, 0 for none; the verdict; and for the verdict 4 the index.
 pub data Judged (log ts : List ℕ) : ℕ × ℕ × ℕ → Type 0 where
-  -- "an accepted log that replays without refusal; otherwise give that log's refusal"
-  refused : {k : ℕ} → courseOf log ≡ stopped k → Judged log ts (k, 0, 0)
+  -- "an accepted log that replays without refusal; otherwise give that log's refusal (6 is not given here ..)"
+  refused : {k : ℕ} → replayed log .course ≡ stopped k → Judged log ts (k, 0, 0)
   -- "A transcript of another length than the readings is refused as 17, after all log checks"
-  other-length : courseOf log ≡ going → (length ts ≡ length (plain log) → ⊥) → Judged log ts (17, 0, 0)
+  other-length : replayed log .course ≡ going → (length ts ≡ length (plain log) → ⊥) → Judged log ts (17, 0, 0)
   -- 1 "same", 2 "same once every encoder CNTR reading is negated", 3 "both, given instead of either when both hold"
-  same : courseOf log ≡ going → ts ≡ plain log → (ts ≡ opposite log → ⊥) → Judged log ts (0, 1, 0)
-  negated : courseOf log ≡ going → (ts ≡ plain log → ⊥) → ts ≡ opposite log → Judged log ts (0, 2, 0)
-  both : courseOf log ≡ going → ts ≡ plain log → ts ≡ opposite log → Judged log ts (0, 3, 0)
+  same : replayed log .course ≡ going → ts ≡ plain log → (ts ≡ opposite log → ⊥) → Judged log ts (0, 1, 0)
+  negated : replayed log .course ≡ going → (ts ≡ plain log → ⊥) → ts ≡ opposite log → Judged log ts (0, 2, 0)
+  both : replayed log .course ≡ going → ts ≡ plain log → ts ≡ opposite log → Judged log ts (0, 3, 0)
   -- 4 "if none of these, different, with the index of the first reading that differs from the plain replay"
-  different : {i : ℕ} → courseOf log ≡ going → length ts ≡ length (plain log) → (ts ≡ opposite log → ⊥)
+  different : {i : ℕ} → replayed log .course ≡ going → length ts ≡ length (plain log) → (ts ≡ opposite log → ⊥)
       → take (8 * i) ts ≡ take (8 * i) (plain log) → (take (8 * (i + 1)) ts ≡ take (8 * (i + 1)) (plain log) → ⊥) → Judged log ts (0, 4, i)
 
 -- the numbers of an answer

@@ -2,15 +2,16 @@
 use mathlib.Core.List.{List}
 use Prim.Native.Nat.{ℕ}
 use Rattle.decimal.specs.Put.{Put}
-use Rattle.text.specs.Text.{line, refusedText, sameWord, negatedWord, bothWord, differentText}
+use Rattle.decimal.specs.Ascii.{ascii}
+use Rattle.text.specs.Text.{line, refusedText, differentText}
 use Rattle.judge.specs.declared.Verdict.{Verdict}
 use Rattle.judge.specs.declared.Verdict.the-variants.{Same, Negated, Both, Different, Refused}
 use Rattle.judge.specs.Judge.{Answer}
 
 abbrev pub verdictText : Verdict → List ℕ
-verdictText Same = line sameWord
-verdictText Negated = line negatedWord
-verdictText Both = line bothWord
+verdictText Same = line (ascii "same")
+verdictText Negated = line (ascii "negated")
+verdictText Both = line (ascii "both")
 verdictText (Different i) = differentText i
 verdictText (Refused n) = refusedText n
 

@@ -14,9 +14,7 @@ use Rattle.fold.specs.Output.{stopOf, numberOf}
 use Rattle.fold.specs.Device.{records}
 use Rattle.fold.specs.Stream.{wholes, leftOver}
 use Rattle.fold.proofs.Streams.{records-front}
-use Rattle.fold.proofs.Written.{bytes-cut}
 use Rattle.edition.specs.Edition.{editionOf}
-use Rattle.wire.specs.Bytes.{leBytes}
 use Rattle.wire.specs.Trailer.{trailerOf, recordsAt, editionAt}
 use Rattle.wire.specs.declared.Trailer.{Trailer}
 use Rattle.wire.specs.declared.Trailer.the-variants.{Found}
@@ -30,14 +28,14 @@ use Rattle.replay.proofs.Proved.{replayed}
 use Rattle.travel.specs.Stretch.{pinsIn, encoderAfter}
 use Rattle.travel.specs.Demand.{Demand}
 use Rattle.travel.proofs.Proved.{demand-of-runs}
-use Rattle.live.specs.Live.{Taken, freshOf, takenOf, chunkOf, endOf}
+use Rattle.live.specs.Live.{Live, Taken, freshOf, takenOf, chunkOf, endOf}
 use Rattle.live.proofs.Ways.{Way, again, taken, not-taken, way}
 use Rattle.live.proofs.Ways as ways
-use Rattle.live_cut.specs.Cut.{bytesIn}
-use Rattle.live_cut.specs.Facts.{AnyCut, EndOfAll, CutOfLogs, Joined, SixLeaves, RefusedAgain, DemandOfStreams}
+use Rattle.live_cut.specs.Cut.{Lent, bytesIn, streamed, Roomy}
+use Rattle.live_cut.specs.Facts.{Cuts}
 use Rattle.live_cut.proofs.Chunks.{stays, taken-not-six, all-at-once}
 
-pub any-cut : AnyCut
+any-cut : (e : ℕ) (cs : List Lent) → Roomy (freshOf e) cs → streamed (freshOf e) cs ≡ takenOf (freshOf e) (bytesIn cs)
 any-cut e cs h = all-at-once (freshOf e) cs (record { none = refl; few = omega arith; small = omega arith }) h
 
 left-long : (b : List ℕ) → length (leftOver 16 b) ≡ length b % 16
@@ -46,11 +44,6 @@ left-long b = omega (arith, length-drop (16 * (length b / 16)) b)
 end-of-one : (e : ℕ) (b : List ℕ) → takenOf (freshOf e) b .refused ≡ 0 → endOf (takenOf (freshOf e) b .live) ≡ cond (eqb (length b % 16) 0) 0 5
 unfolding takenOf
 end-of-one e b g = rw (eq-eqb (numberOf (played (editionOf e) (wholes 16 b) .course)) 0 g) (ap (λ (n : ℕ). cond (eqb n 0) 0 5) (left-long b))
-
-pub end-of-all : EndOfAll
-end-of-all e cs h g =
-    let one = any-cut e cs h in
-    ap (λ (t : Taken). endOf (t .live)) one ∙ end-of-one e (bytesIn cs) (sym (ap (λ (t : Taken). t .refused) one) ∙ g)
 
 -- ---- a log's records
 
@@ -72,24 +65,7 @@ module _ (log : List ℕ) (a n e : ℕ) (found : trailerOf log ≡ Found a n e) 
   none-left true = drop-of-length-le all {i = 16 * (length all / 16)} (omega (arith, long))
   none-left false = refl
 
-pub cut-of-logs : CutOfLogs
-unfolding takenOf stopOf
-cut-of-logs log room a n e cs found enough is h =
-    let x = replayOf log room in
-    let same : played (editionOf e) (wholes 16 (all log a n e found)) ≡ x =
-    ap₂ played (ap editionAt (sym found)) (log-records log a n e found ∙ ap (λ (t : Trailer). recordsAt t log) (sym found))
-    ∙ sym (replayed log a n e room found enough) in
-    let few : x .applied % 2 ^ 64 ≡ x .applied = mod-eq-of-lt (omega (arith, small log room (stopOf x) refl)) in
-    any-cut e cs h
-    ∙ ap (takenOf (freshOf e)) is
-    ∙ rw (same, none-left log a n e found (eqb (numberOf (x .course)) 0), zero-add (x .applied), few)
-
-pub joined : Joined
-joined = bytes-cut (leBytes 8)
-
--- ---- refusals
-
-pub six-leaves : SixLeaves
+six-leaves : (s : Live) (b : List ℕ) (room : ℕ) → chunkOf s b room .refused ≡ 6 → chunkOf s b room ≡ record { live = s; refused = 6; readings = [] }
 six-leaves s b room h = by (way s b room)
   where
     by : Way s b room → chunkOf s b room ≡ record { live = s; refused = 6; readings = [] }
@@ -97,14 +73,28 @@ six-leaves s b room h = by (way s b room)
     by (taken none e) = absurd (taken-not-six s b (sym (ap (λ (t : Taken). t .refused) e) ∙ h))
     by (not-taken none e) = e
 
-pub refused-again : RefusedAgain
-refused-again s cs b room h = (stays s cs h, ways.refused-again s b room h, rw (ne-eqb (s .refused) 0 h))
+-- ---- the facts
 
--- ---- demand 3
-
-pub demand-of-streams : DemandOfStreams
-unfolding takenOf
-demand-of-streams e k i cs before r rs h cut st =
-    subst (λ (x : State). Demand (pinsIn k i (r ∷ rs)) (encoderAfter (editionOf e) k i (before ++ r ∷ []) .count) (encoderAt i (bankAt k x) .count))
-    (ap (λ (l : List (List ℕ)). played (editionOf e) l .state) (sym cut) ∙ sym (ap (λ (t : Taken). t .live .state) (any-cut e cs h)))
-    (demand-of-runs (editionOf e) k i before r rs st)
+pub cuts : Cuts
+unfolding takenOf stopOf
+cuts = record {
+  any-cut = any-cut;
+  end-of-all = λ e cs h g.
+      let one = any-cut e cs h in
+      ap (λ (t : Taken). endOf (t .live)) one ∙ end-of-one e (bytesIn cs) (sym (ap (λ (t : Taken). t .refused) one) ∙ g);
+  of-logs = λ log room a n e cs found enough is h.
+      let x = replayOf log room in
+      let same : played (editionOf e) (wholes 16 (all log a n e found)) ≡ x =
+      ap₂ played (ap editionAt (sym found)) (log-records log a n e found ∙ ap (λ (t : Trailer). recordsAt t log) (sym found))
+      ∙ sym (replayed log a n e room found enough) in
+      let few : x .applied % 2 ^ 64 ≡ x .applied = mod-eq-of-lt (omega (arith, small log room (stopOf x) refl)) in
+      any-cut e cs h
+      ∙ ap (takenOf (freshOf e)) is
+      ∙ rw (same, none-left log a n e found (eqb (numberOf (x .course)) 0), zero-add (x .applied), few);
+  six-leaves = six-leaves;
+  refused-again = λ s cs b room h. (stays s cs h, ways.refused-again s b room h, rw (ne-eqb (s .refused) 0 h));
+  demand = λ e k i cs before r rs h cut st.
+      subst (λ (x : State). Demand (pinsIn k i (r ∷ rs)) (encoderAfter (editionOf e) k i (before ++ r ∷ []) .count) (encoderAt i (bankAt k x) .count))
+      (ap (λ (l : List (List ℕ)). played (editionOf e) l .state) (sym cut) ∙ sym (ap (λ (t : Taken). t .live .state) (any-cut e cs h)))
+      (demand-of-runs (editionOf e) k i before r rs st);
+}

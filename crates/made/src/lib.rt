@@ -2,9 +2,7 @@
 use wire::Trailer;
 ghost use mathlib.Core.Path.{_≡_};
 ghost use lib.ListN.{length};
-ghost use Rattle.fold.specs.Run.{going};
-ghost use Rattle.made.specs.Made.{madeBy, outputBy};
-ghost use Rattle.made.specs.How.{sourceOf};
+ghost use Rattle.made.specs.How.{sourceOf, handedOf, handedIn};
 
 // The refusal, 0 for none; the index of the record that was refused, else 0; how many bytes were made.
 pub struct Made {
@@ -53,8 +51,8 @@ pub fn source_of(log: &[u8]) -> Source
 
 // Bytes made in a buffer of our own, so that 6 writes nothing.
 pub fn hand_out(bytes: &[u8], out: &mut [u8]) -> Made
-    ensures { λ r. ⌜ r ≡ madeBy going 0 (now (bytes .entry)) (length (now (out .entry))) ⌝ }
-    ensures { λ _. ⌜ now (out .exit) ≡ outputBy going (now (bytes .entry)) (now (out .entry)) ⌝ }
+    ensures { λ r. ⌜ r ≡ handedOf (now (bytes .entry)) (length (now (out .entry))) ⌝ }
+    ensures { λ _. ⌜ now (out .exit) ≡ handedIn (now (bytes .entry)) (now (out .entry)) ⌝ }
 {
     if out.len() < bytes.len() {
         return Made {

@@ -1,3 +1,4 @@
 pub mod Prints
 pub mod OfLogs
+pub mod Readings
 mod Ways

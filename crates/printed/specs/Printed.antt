@@ -9,7 +9,7 @@ use Rattle.io.specs.Counts.{Counts}
 use Rattle.decimal.specs.Put.{Put}
 use Rattle.fold.specs.Output.{numberOf}
 use Rattle.text.specs.Text.{refusedText, refusedRecordText}
-use Rattle.made.specs.Made.{replayed}
+use Rattle.replay.specs.Replay.{replayed}
 use Rattle.printed.specs.declared.Printed.{Printed}
 
 -- "a refusal leaves standard output empty and is told on standard error (`refused R`, for a record with ` record I`)": a record is

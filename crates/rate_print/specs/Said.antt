@@ -28,10 +28,10 @@ same (a ∷ s) (b ∷ t) = eqb a b && same s t
 -- "pwm", "spi", "pwm-rate" and "spi-rate"
 unfoldable pub questionOf : List ℕ → Question
 questionOf word =
-    cond (same word (112 ∷ 119 ∷ 109 ∷ [])) (Pair false)
-    (cond (same word (115 ∷ 112 ∷ 105 ∷ [])) (Pair true)
-    (cond (same word (112 ∷ 119 ∷ 109 ∷ 45 ∷ 114 ∷ 97 ∷ 116 ∷ 101 ∷ [])) (Rate false)
-    (cond (same word (115 ∷ 112 ∷ 105 ∷ 45 ∷ 114 ∷ 97 ∷ 116 ∷ 101 ∷ [])) (Rate true) Other)))
+    cond (same word (ascii "pwm")) (Pair false)
+    (cond (same word (ascii "spi")) (Pair true)
+    (cond (same word (ascii "pwm-rate")) (Rate false)
+    (cond (same word (ascii "spi-rate")) (Rate true) Other)))
 
 abbrev pub ruleOf : Bool → Rule
 ruleOf false = pwm 1_000
@@ -48,13 +48,13 @@ ratedText (Ratio clock period) = rateText clock period
 ratedText (Unset n) = refusedText n
 
 abbrev pub PairSaid : Rule → Decimal → Decimal → List ℕ → List ℕ → ℕ → Type 0
-PairSaid u NoNumber b out out′ n = Put out 0 (noNumberText (82 ∷ 65 ∷ 84 ∷ 69 ∷ [])) out′ n
-PairSaid u (Number f) NoNumber out out′ n = Put out 0 (noNumberText (84 ∷ 79 ∷ 76 ∷ [])) out′ n
+PairSaid u NoNumber b out out′ n = Put out 0 (noNumberText (ascii "RATE")) out′ n
+PairSaid u (Number f) NoNumber out out′ n = Put out 0 (noNumberText (ascii "TOL")) out′ n
 PairSaid u (Number f) (Number tol) out out′ n = (r : Found) × Answer u f tol r × Put out 0 (foundText r) out′ n
 
 abbrev pub RateSaid : Rule → Decimal → Decimal → List ℕ → List ℕ → ℕ → Type 0
-RateSaid u NoNumber b out out′ n = Put out 0 (noNumberText (67 ∷ 72 ∷ 79 ∷ 73 ∷ 67 ∷ 69 ∷ [])) out′ n
-RateSaid u (Number c) NoNumber out out′ n = Put out 0 (noNumberText (88 ∷ [])) out′ n
+RateSaid u NoNumber b out out′ n = Put out 0 (noNumberText (ascii "CHOICE")) out′ n
+RateSaid u (Number c) NoNumber out out′ n = Put out 0 (noNumberText (ascii "X")) out′ n
 RateSaid u (Number c) (Number x) out out′ n = (r : Rated) × (ratedNumbers r ≡ rateOf u c x) × Put out 0 (ratedText r) out′ n
 
 -- to any other word nothing

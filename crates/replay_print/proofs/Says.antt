@@ -1,24 +1,51 @@
 -- The readings in the replay's output, and the text of them. Assumes nothing.
-use mathlib.Core.Path.{_≡_, refl, sym, ap}
-use mathlib.Core.List.{List}
+use mathlib.Core.Path.{_≡_, sym, ap}
+use mathlib.Core.Bool.{Bool, true, false, cond}
+use mathlib.Core.List.{List, []}
 use Prim.Native.Nat.{ℕ, _*_, _^_, _≤_, _<_}
 use native.Mathlib.Omega.{arith}
-use lib.ListN.{length, take, drop}
+use lib.Dec.{leb}
+use lib.ListN.{length, getD, take, drop}
 use lib.Seq.{take-at}
 use Rattle.decimal.specs.Put.{Put}
-use Rattle.wire.specs.Bytes.{leBytes}
+use Rattle.wire.specs.Bytes.{leBytes, readsIn}
+use Rattle.wire.specs.Trailer.{trailerOf}
+use Rattle.wire.specs.declared.Trailer.{Trailer}
+use Rattle.wire.specs.declared.Trailer.the-variants.{Found, Refused as NoTrailer}
 use Rattle.fold.specs.declared.Stop.{Stop}
+use Rattle.fold.specs.Run.{halted}
 use Rattle.fold.specs.Output.{numberOf, bytesOf, over, stopOf, outputOf}
-use Rattle.fold.proofs.Written.{length-bytes}
-use Rattle.replay.specs.Replay.{replayOf}
+use Rattle.edition.specs.declared.Edition.{Edition}
+use Rattle.banks.specs.State.{fresh}
+use Rattle.replay.specs.Replay.{played, playOf, replayFrom, replayOf}
+use Rattle.image_kept.proofs.Keeping.{state-first}
+use Rattle.image_kept.proofs.Readings.{readings-small}
 use Rattle.judge.proofs.Numbers.{in-bytes}
 use Rattle.judge.proofs.Whole.{few}
 use Rattle.text.specs.Text.{textOf, readingsIn}
 use Rattle.text.proofs.Room.{text-below}
+use Rattle.printed.proofs.Readings.{long-bytes, readings-back}
 use Rattle.replay_print.specs.Said.{saidOf}
 
-pub long-bytes : (vs : List ℕ) → length (bytesOf (leBytes 8) vs) ≡ 8 * length vs
-long-bytes vs = length-bytes (leBytes 8) (λ v. refl) vs
+-- ---- every reading of a replay is below 2^64
+
+play-small : (e : Edition) (rs : List (List ℕ)) (room i : ℕ) → getD (playOf e rs room .readings) i 0 < 2 ^ 64
+unfolding playOf
+play-small e rs room i = by (leb (8 * readsIn rs) room)
+  where
+    by : (t : Bool) → getD (cond t (played e rs) (halted fresh 0 [] 6) .readings) i 0 < 2 ^ 64
+    by true = readings-small e fresh rs state-first i
+    by false = omega arith
+
+pub replay-small : (log : List ℕ) (room i : ℕ) → getD (replayOf log room .readings) i 0 < 2 ^ 64
+unfolding replayOf replayFrom
+replay-small log room i = by (trailerOf log)
+  where
+    by : (t : Trailer) → getD (replayFrom t log room .readings) i 0 < 2 ^ 64
+    by (NoTrailer k) = omega arith
+    by (Found a n e) = play-small _ _ room i
+
+-- ---- what is printed of it
 
 module _ (log : List ℕ) (room : ℕ) (stop : Stop) (out out′ : List ℕ) (s : stop ≡ stopOf (replayOf log room))
     (o : out′ ≡ outputOf (leBytes 8) (replayOf log room) out) where
@@ -33,14 +60,18 @@ module _ (log : List ℕ) (room : ℕ) (stop : Stop) (out out′ : List ℕ) (s 
   unfolding outputOf over bytes
   theirs = rw o (take-at bytes (drop (length bytes) out) (8 * stop .readings) (sym long))
 
+  back : readingsIn bytes ≡ replayOf log room .readings
+  unfolding bytes
+  back = readings-back (replayOf log room .readings) (replay-small log room)
+
   module _ (e : room ≡ 16_384) where
     pub said : (text text′ : List ℕ) (n : ℕ) → Put text 0 (textOf (readingsIn (take (8 * stop .readings) out′)) (stop .applied) (stop .refused)) text′ n
         → Put text 0 (saidOf log) text′ n
-    unfolding saidOf stopOf bytes
-    said text text′ n x = rw (← e) (rw (theirs, s) at x)
+    unfolding saidOf stopOf
+    said text text′ n x = rw (← e) (rw (theirs, back, s) at x)
 
     pub room-enough : length out′ ≡ 16_384 → stop .applied < 2 ^ 64 → stop .refused < 2 ^ 64 → length (saidOf log) ≤ 43_066
     unfolding saidOf stopOf bytes
     room-enough h p q =
         let t = replayOf log room in
-        rw (← e) (omega (arith, few log room stop out out′ s o, long, text-below bytes (t .applied) (numberOf (t .course)) (in-bytes (t .readings)) (rw s at p) (rw s at q)))
+        rw (← e, ← back) (omega (arith, few log room stop out out′ s o, long, text-below bytes (t .applied) (numberOf (t .course)) (in-bytes (t .readings)) (rw s at p) (rw s at q)))

@@ -7,6 +7,7 @@ use mathlib.Core.List.{List, [], _∷_, _++_, map}
 use Prim.Native.Nat.{ℕ, zero, suc, _+_, _-_, _*_}
 use lib.Dec.{eqb}
 use lib.IntN.{ℤ, pos, negsuc, natAbs, _+ℤ_, _-ℤ_}
+use Rattle.decimal.specs.Ascii.{ascii}
 use Rattle.decimal.specs.Digits.{digitsOf}
 use Rattle.fold.specs.Run.{concat}
 use Rattle.fold.specs.Output.{numberOf}
@@ -17,58 +18,58 @@ use Rattle.sign.specs.Sign.{Entry, stretchesOf, Verdict, settled, unsettled, ve
 
 -- the fixed words: "bank ", " encoder ", ": records ", " to ", ", ", " pin", " step", " double change" and ", travel "
 abbrev pub bankWord : List ℕ
-bankWord = 98 ∷ 97 ∷ 110 ∷ 107 ∷ 32 ∷ []
+bankWord = ascii "bank "
 
 abbrev pub encoderWord : List ℕ
-encoderWord = 32 ∷ 101 ∷ 110 ∷ 99 ∷ 111 ∷ 100 ∷ 101 ∷ 114 ∷ 32 ∷ []
+encoderWord = ascii " encoder "
 
 abbrev pub recordsWord : List ℕ
-recordsWord = 58 ∷ 32 ∷ 114 ∷ 101 ∷ 99 ∷ 111 ∷ 114 ∷ 100 ∷ 115 ∷ 32 ∷ []
+recordsWord = ascii ": records "
 
 abbrev pub toWord : List ℕ
-toWord = 32 ∷ 116 ∷ 111 ∷ 32 ∷ []
+toWord = ascii " to "
 
 abbrev pub comma : List ℕ
-comma = 44 ∷ 32 ∷ []
+comma = ascii ", "
 
 abbrev pub pinWord : List ℕ
-pinWord = 32 ∷ 112 ∷ 105 ∷ 110 ∷ []
+pinWord = ascii " pin"
 
 abbrev pub stepWord : List ℕ
-stepWord = 32 ∷ 115 ∷ 116 ∷ 101 ∷ 112 ∷ []
+stepWord = ascii " step"
 
 abbrev pub doubleWord : List ℕ
-doubleWord = 32 ∷ 100 ∷ 111 ∷ 117 ∷ 98 ∷ 108 ∷ 101 ∷ 32 ∷ 99 ∷ 104 ∷ 97 ∷ 110 ∷ 103 ∷ 101 ∷ []
+doubleWord = ascii " double change"
 
 abbrev pub travelWord : List ℕ
-travelWord = 44 ∷ 32 ∷ 116 ∷ 114 ∷ 97 ∷ 118 ∷ 101 ∷ 108 ∷ 32 ∷ []
+travelWord = ascii ", travel "
 
 -- the verdicts: ": forward", ": backward", ": still", and ": open, " with " short of a direction"
 abbrev pub forwardWord : List ℕ
-forwardWord = 58 ∷ 32 ∷ 102 ∷ 111 ∷ 114 ∷ 119 ∷ 97 ∷ 114 ∷ 100 ∷ []
+forwardWord = ascii ": forward"
 
 abbrev pub backwardWord : List ℕ
-backwardWord = 58 ∷ 32 ∷ 98 ∷ 97 ∷ 99 ∷ 107 ∷ 119 ∷ 97 ∷ 114 ∷ 100 ∷ []
+backwardWord = ascii ": backward"
 
 abbrev pub stillWord : List ℕ
-stillWord = 58 ∷ 32 ∷ 115 ∷ 116 ∷ 105 ∷ 108 ∷ 108 ∷ []
+stillWord = ascii ": still"
 
 abbrev pub openWord : List ℕ
-openWord = 58 ∷ 32 ∷ 111 ∷ 112 ∷ 101 ∷ 110 ∷ 44 ∷ 32 ∷ []
+openWord = ascii ": open, "
 
 abbrev pub shortWord : List ℕ
-shortWord = 32 ∷ 115 ∷ 104 ∷ 111 ∷ 114 ∷ 116 ∷ 32 ∷ 111 ∷ 102 ∷ 32 ∷ 97 ∷ 32 ∷ 100 ∷ 105 ∷ 114 ∷ 101 ∷ 99 ∷ 116 ∷ 105 ∷ 111 ∷ 110 ∷ []
+shortWord = ascii " short of a direction"
 
 -- `1 pin`, `2 pins`
 abbrev pub plural : List ℕ → ℕ → List ℕ
-plural word n = word ++ cond (eqb n 1) [] (115 ∷ [])
+plural word n = word ++ cond (eqb n 1) [] (ascii "s")
 
 abbrev pub counted : ℕ → List ℕ → List ℕ
 counted n word = digitsOf n ++ plural word n
 
 -- a number with its sign, and 0 without one
 unfoldable pub signed : ℤ → List ℕ
-signed (pos zero) = 48 ∷ []
+signed (pos zero) = ascii "0"
 signed (pos (suc n)) = 43 ∷ digitsOf (suc n)
 signed (negsuc n) = 45 ∷ digitsOf (suc n)
 

@@ -1,21 +1,25 @@
 -- The facts of specs/Facts.antt. Assumes nothing.
 use mathlib.Core.Logic.{inl, inr}
-use mathlib.Core.Path.{_≡_, refl, sym, _∙_, subst}
+use mathlib.Core.Path.{_≡_, refl, sym, ap, _∙_, subst}
 use mathlib.Core.Bool.{Bool, true, false, cond}
-use mathlib.Core.List.{List}
-use Prim.Native.Nat.{ℕ}
+use mathlib.Core.List.{List, [], _∷_, _++_}
+use Prim.Native.Nat.{ℕ, zero, suc, _+_, _<_}
 use native.Mathlib.Omega.{arith}
 use lib.Dec.{leb}
 use lib.ListN.{length, drop}
-use lib.Seq.{take-at}
+use lib.Seq.{take-at, getD-append-add}
+use Rattle.fold.specs.Run.{concat}
 use Rattle.fold.specs.Output.{over}
+use Rattle.wire.specs.Bytes.{byte}
 use Rattle.edition.specs.Edition.{known}
-use Rattle.live.specs.Live.{Live, freshOf}
+use Rattle.live.specs.Live.{Live, Taken, freshOf, chunkOf}
+use Rattle.live_cut.specs.Cut.{Lent, bytesIn, streamed}
+use Rattle.live_cut.proofs.Proved.{cuts}
 use Rattle.image.specs.Image.{size, imageOf, Fits, Stands}
 use Rattle.image.proofs.Loaded.{image-long}
 use Rattle.image.proofs.Proved.{images}
-use Rattle.stream.specs.Stream.{startedIn}
-use Rattle.stream.specs.Facts.{Starts, Keeps, OnSettled}
+use Rattle.stream.specs.Stream.{startOf, startedIn, On}
+use Rattle.stream.specs.Facts.{Called, Streams, OnSettled}
 use Rattle.stream.proofs.Keeping.{fits-chunk, fits-fresh}
 
 -- a stream stands where its image is put
@@ -23,7 +27,7 @@ put : (l : Live) → Fits l → (state : List ℕ) → Stands (over (imageOf l) 
 unfolding over
 put l f state = (f, sym (take-at (imageOf l) (drop (length (imageOf l)) state) size (image-long l f)))
 
-pub starts : Starts
+starts : (edition : ℕ) (state : List ℕ) → startOf edition (length state) ≡ 0 → Stands (startedIn edition state) (freshOf edition)
 starts edition state z = by (known edition) (leb size (length state)) refl z
   where
     by : (k r : Bool) → known edition ≡ k → cond {A = ℕ} k (cond r 0 6) 4 ≡ 0 → Stands (startedIn edition state) (freshOf edition)
@@ -31,12 +35,40 @@ starts edition state z = by (known edition) (leb size (length state)) refl z
     by true false e h = absurd (omega arith)
     by false r e h = absurd (omega arith)
 
-pub keeps : Keeps
+keeps : (state bytes : List ℕ) (room : ℕ) (l : Live) → ((i : ℕ) → byte bytes i < 256) → Stands state l
+    → Stands (over (imageOf (chunkOf l bytes room .live)) state) (chunkOf l bytes room .live)
 keeps state bytes room l given h = put _ (fits-chunk l (h .0) bytes given room) state
 
 -- one stream stands in bytes
 one : (state : List ℕ) (l m : Live) → Stands state l → Stands state m → m ≡ l
 one state l m a b = images l (a .0) .2 m (b .0) (b .1 ∙ sym (a .1))
+
+-- ---- chunk after chunk
+
+front : (a b : List ℕ) → ((i : ℕ) → byte (a ++ b) i < 256) → (i : ℕ) → byte a i < 256
+front [] b g i = omega arith
+front (x ∷ a) b g zero = g 0
+front (x ∷ a) b g (suc i) = front a b (λ j. g (suc j)) i
+
+called : (cs : List Lent) (state after : List ℕ) (l : Live) → ((i : ℕ) → byte (bytesIn cs) i < 256) → Stands state l → Called state cs after
+    → Stands after (streamed l cs .live)
+unfolding Called streamed concat
+called [] state after l g h c = rw c h
+called (d ∷ cs) state after l g h (mid, inl a, c) =
+    let next = chunkOf l (d .bytes) (d .room) .live in
+    let is : mid ≡ over (imageOf next) state =
+    a .2 ∙ ap (λ (m : Live). over (imageOf (chunkOf m (d .bytes) (d .room) .live)) state) (one state l (a .0) h (a .1)) in
+    called cs mid after next (λ i. rw (getD-append-add (d .bytes) (bytesIn cs) i 0) at (g (length (d .bytes) + i)))
+    (rw is (keeps state (d .bytes) (d .room) l (front (d .bytes) (bytesIn cs) g) h)) c
+called (d ∷ cs) state after l g h (mid, inr b, c) = absurd (b .0 l h)
+
+pub streams : Streams
+streams = record {
+  starts = starts;
+  keeps = keeps;
+  any-calls = λ edition state after cs z g roomy c.
+      subst (λ (t : Taken). Stands after (t .live)) (cuts .any-cut edition cs roomy) (called cs (startedIn edition state) after (freshOf edition) g (starts edition state z) c);
+}
 
 pub on-settled : OnSettled
 on-settled A state P N p n v w (inl a) (inl b) = p (a .0) v w (a .2) (subst (λ (l : Live). P l w) (one state (a .0) (b .0) (a .1) (b .1)) (b .2))

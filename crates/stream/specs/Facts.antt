@@ -2,22 +2,31 @@
 -- Assumes nothing.
 use Prim.Native.Nat.{ℕ, _<_}
 use mathlib.Core.Path.{_≡_}
-use mathlib.Core.List.{List}
+use mathlib.Core.List.{List, [], _∷_}
 use lib.ListN.{length}
 use Rattle.fold.specs.Output.{over}
 use Rattle.wire.specs.Bytes.{byte}
-use Rattle.live.specs.Live.{Live, freshOf, chunkOf}
+use Rattle.live.specs.Live.{Live, freshOf, takenOf, chunkOf}
+use Rattle.live_cut.specs.Cut.{Lent, bytesIn, Roomy}
 use Rattle.image.specs.Image.{imageOf, Stands}
 use Rattle.stream.specs.Stream.{startOf, startedIn, On}
 
--- in what is started stands the fresh stream
-abbrev pub Starts : Type 0
-Starts = (edition : ℕ) (state : List ℕ) → startOf edition (length state) ≡ 0 → Stands (startedIn edition state) (freshOf edition)
+-- chunk after chunk on the lent bytes: each call leaves them as the contract of `rvz_stream_chunk` says
+unfoldable pub Called : List ℕ → List Lent → List ℕ → Type 0
+Called state [] after = after ≡ state
+Called state (c ∷ cs) after = (mid : List ℕ)
+    × On state (λ l. mid ≡ over (imageOf (chunkOf l (c .bytes) (c .room) .live)) state) (mid ≡ state) × Called mid cs after
 
--- and in a state afterwards the stream that a chunk comes to
-abbrev pub Keeps : Type 0
-Keeps = (state bytes : List ℕ) (room : ℕ) (l : Live) → ((i : ℕ) → byte bytes i < 256) → Stands state l
-    → Stands (over (imageOf (chunkOf l bytes room .live)) state) (chunkOf l bytes room .live)
+pub record Streams : Type 0 where
+  -- in what is started stands the fresh stream
+  pub starts : (edition : ℕ) (state : List ℕ) → startOf edition (length state) ≡ 0 → Stands (startedIn edition state) (freshOf edition)
+  -- and in a state afterwards the stream that a chunk comes to
+  pub keeps : (state bytes : List ℕ) (room : ℕ) (l : Live) → ((i : ℕ) → byte bytes i < 256) → Stands state l
+      → Stands (over (imageOf (chunkOf l bytes room .live)) state) (chunkOf l bytes room .live)
+  -- "however a run of whole records is cut, with room enough each time", from the start on: in the end there stands in the lent bytes the stream that
+  -- one chunk of all its bytes comes to
+  pub any-calls : (edition : ℕ) (state after : List ℕ) (cs : List Lent) → startOf edition (length state) ≡ 0 → ((i : ℕ) → byte (bytesIn cs) i < 256)
+      → Roomy (freshOf edition) cs → Called (startedIn edition state) cs after → Stands after (takenOf (freshOf edition) (bytesIn cs) .live)
 
 -- "Any two outcomes allowed by a contract are proved the same": P allows one of each stream, and N one where none stands
 abbrev pub OnSettled : Type 1

@@ -1,18 +1,16 @@
 -- What `rvz stream` prints, as bytes. Assumes nothing.
 use mathlib.Core.List.{List}
 use Prim.Native.Nat.{ℕ}
-use Rattle.wire.specs.Bytes.{leBytes}
-use Rattle.fold.specs.Output.{bytesOf}
-use Rattle.text.specs.Text.{linesOf, readingsIn, stopText}
+use Rattle.text.specs.Text.{linesOf, stopText}
 use Rattle.live.specs.Live.{Live, Taken, chunkOf, endOf}
 
 -- what a chunk of at most 4,096 bytes comes to, with room for 257 readings: 15 bytes that are carried and the chunk's finish no more records
 abbrev pub arrived : Live → List ℕ → Taken
 arrived s chunk = chunkOf s chunk 2056
 
--- its readings, which are as their 8 bytes say
-unfoldable pub shownOf : Taken → List ℕ
-shownOf t = linesOf (readingsIn (bytesOf (leBytes 8) (t .readings)))
+-- its readings
+abbrev pub shownOf : Taken → List ℕ
+shownOf t = linesOf (t .readings)
 
 -- the last line, of a stream that has ended
 abbrev pub lastOf : Live → List ℕ

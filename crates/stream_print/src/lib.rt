@@ -12,6 +12,7 @@ ghost use Rattle.io.specs.Counts.{Counts};
 ghost use Rattle.decimal.specs.Put.{Put};
 ghost use Rattle.live.specs.How.{liveOf, Good};
 ghost use Rattle.stream_print.specs.Shown.{arrived, shownOf, lastOf, noEdition};
+ghost use Rattle.stream_print.specs.How.{Ready};
 
 // The stream after a chunk, and the size of what is printed of it.
 pub struct Shown {
@@ -21,12 +22,12 @@ pub struct Shown {
 
 // What a chunk prints: 257 lines, of at most 21 bytes, fit 5,397.
 pub fn chunk_text(text: &mut [u8], s: Stream, bytes: &[u8]) -> Shown
-    requires { ⌜ Good s ⌝ }
+    requires { ⌜ Ready s ⌝ }
     requires { ⌜ length (now bytes) ≤ 4096 ⌝ }
     ensures { λ r. ⌜ liveOf (r .stream) ≡ arrived (liveOf s) (now (bytes .entry)) .live ⌝ }
     ensures { λ r. ⌜ Put (now (text .entry)) 0 (shownOf (arrived (liveOf s) (now (bytes .entry)))) (now (text .exit)) (r .size) ⌝ }
     ensures { λ _. ⌜ length (shownOf (arrived (liveOf s) (now (bytes .entry)))) ≤ 5397 ⌝ }
-    ensures { λ r. ⌜ Good (r .stream) ⌝ }
+    ensures { λ r. ⌜ Ready (r .stream) ⌝ }
 {
     let mut out = [0u8; 2056];
     let chunked = live::chunk(s, bytes, &mut out);
@@ -62,10 +63,10 @@ pub fn no_edition_text(text: &mut [u8]) -> usize
 
 // A chunk's readings, written at once.
 fn show(s: Stream, bytes: &[u8]) -> Stream
-    requires { ⌜ Good s ⌝ }
+    requires { ⌜ Ready s ⌝ }
     requires { ⌜ length (now bytes) ≤ 4096 ⌝ }
     ensures { λ r. ⌜ liveOf r ≡ arrived (liveOf s) (now (bytes .entry)) .live ⌝ }
-    ensures { λ r. ⌜ Good r ⌝ }
+    ensures { λ r. ⌜ Ready r ⌝ }
 {
     let mut text = [0u8; 5397];
     let shown = chunk_text(&mut text, s, bytes);
@@ -83,8 +84,8 @@ struct Next {
 
 // Whatever is there is a chunk. What is read no contract can say.
 fn read_on(s: Stream) -> Next
-    requires { ⌜ Good s ⌝ }
-    ensures { λ r. ⌜ Good (r .stream) ⌝ }
+    requires { ⌜ Ready s ⌝ }
+    ensures { λ r. ⌜ Ready (r .stream) ⌝ }
 {
     let mut bytes = io::buffer();
     let got = libc::read(STDIN_FILENO, &mut bytes);
@@ -98,8 +99,8 @@ fn read_on(s: Stream) -> Next
 
 // Chunk after chunk. The loop ends with the input: 2^64 reads take longer than any machine lasts.
 fn all(first: Stream) -> Stream
-    requires { ⌜ Good first ⌝ }
-    ensures { λ r. ⌜ Good r ⌝ }
+    requires { ⌜ Ready first ⌝ }
+    ensures { λ r. ⌜ Ready r ⌝ }
 {
     let mut s = first;
     let mut reads: u64 = 0;

@@ -6,20 +6,21 @@ use native.Mathlib.Omega.{arith}
 use lib.ListN.{length}
 use Rattle.decimal.specs.Digits.{digitsWithin, digitsOf}
 use Rattle.decimal.proofs.Back.{are-digits, some-digits, ends, digits-end}
-use Rattle.text.specs.Text.{space, refusedWord, appliedWord, line, linesOf, textOf}
+use Rattle.decimal.specs.Ascii.{ascii}
+use Rattle.text.specs.Text.{line, linesOf, textOf}
 use Rattle.text.specs.Facts.{Texts}
 
 -- ---- the last line: the words fall away, and each number ends at its space or newline
 
-words : (k r : ℕ) → line (appliedWord ++ digitsOf k ++ (space ++ refusedWord) ++ digitsOf r) ≡ appliedWord ++ (digitsOf k ++ 32 ∷ (refusedWord ++ (digitsOf r ++ 10 ∷ [])))
+words : (k r : ℕ) → line (ascii "applied " ++ digitsOf k ++ ascii " refused " ++ digitsOf r) ≡ ascii "applied " ++ (digitsOf k ++ 32 ∷ (ascii "refused " ++ (digitsOf r ++ 10 ∷ [])))
 words k r = simp append-assoc
 
 stop-told : (k l r q : ℕ) → textOf [] k r ≡ textOf [] l q → (k ≡ l) × (r ≡ q)
 unfolding linesOf
 stop-told k l r q e =
-    let f : appliedWord ++ (digitsOf k ++ 32 ∷ (refusedWord ++ (digitsOf r ++ 10 ∷ []))) ≡ appliedWord ++ (digitsOf l ++ 32 ∷ (refusedWord ++ (digitsOf q ++ 10 ∷ []))) = sym (words k r) ∙ e ∙ words l q in
-    let g = digits-end k l 32 32 (refusedWord ++ (digitsOf r ++ 10 ∷ [])) (refusedWord ++ (digitsOf q ++ 10 ∷ [])) refl refl (append-cancel-left appliedWord _ _ f) in
-    let h = digits-end r q 10 10 [] [] refl refl (append-cancel-left refusedWord _ _ (g .1)) in
+    let f : ascii "applied " ++ (digitsOf k ++ 32 ∷ (ascii "refused " ++ (digitsOf r ++ 10 ∷ []))) ≡ ascii "applied " ++ (digitsOf l ++ 32 ∷ (ascii "refused " ++ (digitsOf q ++ 10 ∷ []))) = sym (words k r) ∙ e ∙ words l q in
+    let g = digits-end k l 32 32 (ascii "refused " ++ (digitsOf r ++ 10 ∷ [])) (ascii "refused " ++ (digitsOf q ++ 10 ∷ [])) refl refl (append-cancel-left (ascii "applied ") _ _ f) in
+    let h = digits-end r q 10 10 [] [] refl refl (append-cancel-left (ascii "refused ") _ _ (g .1)) in
     (g .0, h .0)
 
 -- a reading begins with a digit, the last line does not

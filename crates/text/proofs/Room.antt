@@ -8,7 +8,8 @@ use lib.Seq.{getD-drop}
 use Rattle.decimal.specs.Digits.{digitsOf}
 use Rattle.decimal.proofs.Back.{twenty-digits}
 use Rattle.wire.specs.Bytes.{leOf}
-use Rattle.text.specs.Text.{appliedWord, space, refusedWord, line, linesOf, textOf, numbersIn, readingsIn}
+use Rattle.decimal.specs.Ascii.{ascii}
+use Rattle.text.specs.Text.{line, linesOf, textOf, numbersIn, readingsIn}
 
 abbrev pub Bytes : List ℕ → Type 0
 Bytes s = (i : ℕ) → getD s i 0 < 256
@@ -29,6 +30,6 @@ lines-below (suc n) s b =
 -- 21 bytes for each reading, and 58 for the last line
 pub text-below : (s : List ℕ) (k r : ℕ) → Bytes s → k < 2 ^ 64 → r < 2 ^ 64 → length (textOf (readingsIn s) k r) ≤ 21 * (length s / 8) + 58
 text-below s k r b p q =
-    let first = appliedWord ++ digitsOf k in
-    let second = first ++ (space ++ refusedWord) in
-    omega (arith, lines-below (length s / 8) s b, length-append (linesOf (readingsIn s)) (line (second ++ digitsOf r)), length-append (second ++ digitsOf r) (10 ∷ []), length-append second (digitsOf r), length-append first (space ++ refusedWord), twenty-digits k p, twenty-digits r q)
+    let first = ascii "applied " ++ digitsOf k in
+    let second = first ++ ascii " refused " in
+    omega (arith, lines-below (length s / 8) s b, length-append (linesOf (readingsIn s)) (line (second ++ digitsOf r)), length-append (second ++ digitsOf r) (10 ∷ []), length-append second (digitsOf r), length-append first (ascii " refused "), twenty-digits k p, twenty-digits r q)

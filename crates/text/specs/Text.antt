@@ -2,32 +2,9 @@
 use mathlib.Core.List.{List, [], _∷_, _++_}
 use Prim.Native.Nat.{ℕ, zero, suc, _-_, _/_, _^_}
 use lib.ListN.{length, drop}
+use Rattle.decimal.specs.Ascii.{ascii}
 use Rattle.decimal.specs.Digits.{digitsOf}
 use Rattle.wire.specs.Bytes.{leOf}
-
--- the fixed words: "applied ", "refused ", "choice ", " x ", " period ", " " and " is no decimal number from 0 to "
-abbrev pub appliedWord : List ℕ
-appliedWord = 97 ∷ 112 ∷ 112 ∷ 108 ∷ 105 ∷ 101 ∷ 100 ∷ 32 ∷ []
-
-abbrev pub refusedWord : List ℕ
-refusedWord = 114 ∷ 101 ∷ 102 ∷ 117 ∷ 115 ∷ 101 ∷ 100 ∷ 32 ∷ []
-
-abbrev pub choiceWord : List ℕ
-choiceWord = 99 ∷ 104 ∷ 111 ∷ 105 ∷ 99 ∷ 101 ∷ 32 ∷ []
-
-abbrev pub xWord : List ℕ
-xWord = 32 ∷ 120 ∷ 32 ∷ []
-
-abbrev pub periodWord : List ℕ
-periodWord = 32 ∷ 112 ∷ 101 ∷ 114 ∷ 105 ∷ 111 ∷ 100 ∷ 32 ∷ []
-
-abbrev pub space : List ℕ
-space = 32 ∷ []
-
-abbrev pub noDecimal : List ℕ
-noDecimal =
-    32 ∷ 105 ∷ 115 ∷ 32 ∷ 110 ∷ 111 ∷ 32 ∷ 100 ∷ 101 ∷ 99 ∷ 105 ∷ 109 ∷ 97 ∷ 108 ∷ 32 ∷ 110 ∷ 117 ∷ 109 ∷ 98 ∷ 101 ∷ 114 ∷ 32
-    ∷ 102 ∷ 114 ∷ 111 ∷ 109 ∷ 32 ∷ 48 ∷ 32 ∷ 116 ∷ 111 ∷ 32 ∷ []
 
 -- a line ends in a newline
 abbrev pub line : List ℕ → List ℕ
@@ -40,7 +17,7 @@ linesOf [] = []
 linesOf (v ∷ vs) = line (digitsOf v) ++ linesOf vs
 
 abbrev pub stopText : ℕ → ℕ → List ℕ
-stopText k r = line (appliedWord ++ digitsOf k ++ (32 ∷ refusedWord) ++ digitsOf r)
+stopText k r = line (ascii "applied " ++ digitsOf k ++ ascii " refused " ++ digitsOf r)
 
 abbrev pub textOf : List ℕ → ℕ → ℕ → List ℕ
 textOf vs k r = linesOf vs ++ stopText k r
@@ -56,37 +33,22 @@ readingsIn s = numbersIn (length s / 8) s
 -- ---- the rates: `choice C x X period P`, `40000000 P`, `refused R`, and what is said to a word that is no number
 
 abbrev pub pairText : ℕ → ℕ → ℕ → List ℕ
-pairText c x p = choiceWord ++ digitsOf c ++ line (xWord ++ digitsOf x ++ periodWord ++ digitsOf p)
+pairText c x p = ascii "choice " ++ digitsOf c ++ line (ascii " x " ++ digitsOf x ++ ascii " period " ++ digitsOf p)
 
 abbrev pub rateText : ℕ → ℕ → List ℕ
-rateText clock period = line (digitsOf clock ++ space ++ digitsOf period)
+rateText clock period = line (digitsOf clock ++ ascii " " ++ digitsOf period)
 
 abbrev pub refusedText : ℕ → List ℕ
-refusedText r = line (refusedWord ++ digitsOf r)
+refusedText r = line (ascii "refused " ++ digitsOf r)
 
 -- `refused R record I`
-abbrev pub recordWord : List ℕ
-recordWord = 32 ∷ 114 ∷ 101 ∷ 99 ∷ 111 ∷ 114 ∷ 100 ∷ 32 ∷ []
-
 abbrev pub refusedRecordText : ℕ → ℕ → List ℕ
-refusedRecordText r i = line (refusedWord ++ digitsOf r ++ recordWord ++ digitsOf i)
+refusedRecordText r i = line (ascii "refused " ++ digitsOf r ++ ascii " record " ++ digitsOf i)
 
 abbrev pub noNumberText : List ℕ → List ℕ
-noNumberText name = name ++ line (noDecimal ++ digitsOf (2 ^ 64 - 1))
+noNumberText name = name ++ line (ascii " is no decimal number from 0 to " ++ digitsOf (2 ^ 64 - 1))
 
--- ---- a verdict: `same`, `negated`, `both`, `different I`
-
-abbrev pub sameWord : List ℕ
-sameWord = 115 ∷ 97 ∷ 109 ∷ 101 ∷ []
-
-abbrev pub negatedWord : List ℕ
-negatedWord = 110 ∷ 101 ∷ 103 ∷ 97 ∷ 116 ∷ 101 ∷ 100 ∷ []
-
-abbrev pub bothWord : List ℕ
-bothWord = 98 ∷ 111 ∷ 116 ∷ 104 ∷ []
-
-abbrev pub differentWord : List ℕ
-differentWord = 100 ∷ 105 ∷ 102 ∷ 102 ∷ 101 ∷ 114 ∷ 101 ∷ 110 ∷ 116 ∷ 32 ∷ []
+-- ---- a verdict: `different I`; the others are one word
 
 abbrev pub differentText : ℕ → List ℕ
-differentText i = line (differentWord ++ digitsOf i)
+differentText i = line (ascii "different " ++ digitsOf i)

@@ -14,8 +14,7 @@ use Rattle.vcd.specs.declared.Line.{Line}
 use Rattle.vcd.specs.declared.Line.the-variants.{Fixed, Var, Unknown, Time, Change, Other}
 use Rattle.vcd.specs.declared.Reader.{Reader}
 use Rattle.vcd.specs.Dump.{changesOf, bodyFrom, Good}
-use Rattle.vcd.specs.Entries.{unchanged}
-use Rattle.vcd.specs.How.{turnOf, timeTurn, whole}
+use Rattle.vcd.specs.How.{turnOf, timeTurn, whole, unchanged}
 use Rattle.vcd.proofs.Print.{GoodLines}
 use Rattle.vcd.proofs.Starts.{There, there-unset}
 use Rattle.vcd.proofs.Heart.{Run, run, at, first-a, changes, some-change}

@@ -16,8 +16,7 @@ use Rattle.vcd.specs.declared.Line.{Line}
 use Rattle.vcd.specs.declared.Line.the-variants.{Fixed, Var, Unknown, Time, Change, Other}
 use Rattle.vcd.specs.declared.Reader.{Reader}
 use Rattle.vcd.specs.Dump.{wiresFrom, headerOf, bodyFrom, Good}
-use Rattle.vcd.specs.Entries.{unchanged}
-use Rattle.vcd.specs.How.{follows, turnOf, varTurn, unknownTurn, opening}
+use Rattle.vcd.specs.How.{follows, turnOf, varTurn, unknownTurn, opening, unchanged}
 use Rattle.vcd.proofs.Print.{GoodLines}
 use Rattle.vcd.proofs.Starts.{Fresh, Under, There}
 use Rattle.vcd.proofs.Heart.{at, vars, unknowns}

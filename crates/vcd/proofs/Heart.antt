@@ -16,8 +16,8 @@ use Rattle.vcd.specs.declared.Line.{Line}
 use Rattle.vcd.specs.declared.Line.the-variants.{Fixed, Var, Unknown, Time, Change}
 use Rattle.vcd.specs.declared.Reader.{Reader}
 use Rattle.vcd.specs.Dump.{wiresFrom, headerOf, changesOf, timed, bodyFrom, Good}
-use Rattle.vcd.specs.Entries.{Entry, unchanged, entriesAt, entriesFrom}
-use Rattle.vcd.specs.How.{turnOf, varTurn, unknownTurn, timeTurn, changeTurn, opening, toldBefore, toldFrom, whole, entries, toldBy}
+use Rattle.vcd.specs.Entries.{Entry, entriesAt, entriesFrom}
+use Rattle.vcd.specs.How.{turnOf, varTurn, unknownTurn, timeTurn, changeTurn, opening, toldBefore, toldFrom, whole, entries, toldBy, unchanged}
 use Rattle.vcd.proofs.Starts.{Fresh, Under, There, there-set}
 
 -- what a run tells, and where it ends

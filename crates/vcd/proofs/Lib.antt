@@ -7,3 +7,4 @@ pub mod Bodies
 pub mod Headers
 pub mod Readings
 pub mod Orders
+pub mod Page

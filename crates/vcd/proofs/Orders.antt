@@ -16,7 +16,7 @@ use Rattle.vcd.specs.declared.Line.the-variants.{Fixed, Var, Unknown, Ti
 use Rattle.vcd.specs.Dump.{declared, startOf, wiresFrom, headerOf, changeOf, changesOf, timed, bodyFrom, dumpOf, Good}
 use Rattle.vcd.specs.Entries.{entriesAt, entriesFrom}
 use Rattle.vcd.specs.How.{pinOf}
-use Rattle.vcd.specs.Facts.{AllShown, Page}
+use Rattle.vcd.specs.Facts.{AllShown}
 use Rattle.vcd.proofs.Starts.{Fresh, fresh-start, long-start}
 use Rattle.vcd.proofs.Heart.{no-change}
 use Rattle.vcd.proofs.Bound.{in-time}
@@ -390,7 +390,3 @@ all-shown steps good few = record {
   rises = rises steps good few;
   alternates = alternates steps good few;
 }
-
-pub page : Page
-unfolding dumpOf declared wiresFrom changesOf timed bodyFrom entriesAt entriesFrom
-page = (refl, refl)

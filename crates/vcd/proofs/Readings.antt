@@ -12,9 +12,9 @@ use Rattle.vcd.specs.declared.Line.{Line}
 use Rattle.vcd.specs.declared.Line.the-variants.{Fixed}
 use Rattle.vcd.specs.Lines.{textOf}
 use Rattle.vcd.specs.Dump.{startOf, headerOf, bodyFrom, dumpOf, Good}
-use Rattle.vcd.specs.Entries.{Entry, unchanged, entriesFrom, entriesIn}
+use Rattle.vcd.specs.Entries.{Entry, entriesFrom, entriesIn}
 use Rattle.vcd.specs.Reader.{Reads, OneReading}
-use Rattle.vcd.specs.How.{linesOf, turnOf, opening, toldFrom, whole, entries, refusal, toldBy, readOf}
+use Rattle.vcd.specs.How.{linesOf, turnOf, opening, toldFrom, whole, entries, refusal, toldBy, readOf, unchanged}
 use Rattle.vcd.proofs.Print.{GoodLines, lines-back}
 use Rattle.vcd.proofs.Starts.{fresh-start, long-start, there-start, under-start, there-all, known-there, stays, three, pinsFrom, declares-all, all-declared}
 use Rattle.vcd.proofs.Heart.{told-all}

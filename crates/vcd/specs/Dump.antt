@@ -27,10 +27,7 @@ wiresFrom line e (p ∷ ps) = cond (eqb p 5) [] (line (2 * e) ∷ line (2 * e + 
 
 -- pins: of the encoders that are declared; unknown: of those with `x` lines
 abbrev pub headerOf : List ℕ → List ℕ → List Line
-headerOf pins unknown =
-    Fixed 0 ∷ Fixed 1 ∷ (wiresFrom Var 0 pins
-    ++ Fixed 2 ∷ Fixed 3 ∷ Fixed 4 ∷ (wiresFrom Unknown 0 unknown
-    ++ Fixed 5 ∷ []))
+headerOf pins unknown = Fixed 0 ∷ Fixed 1 ∷ (wiresFrom Var 0 pins ++ Fixed 2 ∷ Fixed 3 ∷ Fixed 4 ∷ (wiresFrom Unknown 0 unknown ++ Fixed 5 ∷ []))
 
 -- ---- the changes
 
@@ -51,9 +48,7 @@ timed told now (l ∷ ls) = cond told [] (Time now ∷ []) ++ l ∷ ls
 unfoldable pub bodyFrom : Bool → ℕ → List ℕ → List Step → List Line
 bodyFrom told now pins [] = []
 bodyFrom told now pins (Wait t ∷ ss) = bodyFrom (told && eqb t 0) (now + 25 * t) pins ss
-bodyFrom told now pins (Pins e v ∷ ss) =
-    timed told now (changesOf e (getD pins e 0) v)
-    ++ bodyFrom (told || not (eqb (getD pins e 0) v)) now (set pins e v) ss
+bodyFrom told now pins (Pins e v ∷ ss) = let p = getD pins e 0 in timed told now (changesOf e p v) ++ bodyFrom (told || not (eqb p v)) now (set pins e v) ss
 
 unfoldable pub dumpOf : List Step → List Line
 dumpOf steps = headerOf (startOf steps) (startOf steps) ++ bodyFrom false 0 (startOf steps) steps

@@ -14,9 +14,6 @@ pub record Entry : Type 0 where
   pub encoder : ℕ
   pub pins : ℕ
 
-abbrev pub unchanged : List ℕ
-unchanged = replicate 20 0
-
 -- an entry for each encoder, from the eth on, that has changed
 unfoldable pub entriesAt : ℕ → ℕ → List ℕ → List ℕ → List Entry
 entriesAt now e [] changed = []
@@ -28,17 +25,12 @@ entriesAt now e (p ∷ pins) (c ∷ changed) = cond (eqb c 0) [] (record { time 
 unfoldable pub entriesFrom : ℕ → List ℕ → List ℕ → List Step → List Entry
 entriesFrom now pins changed [] = entriesAt now 0 pins changed
 entriesFrom now pins changed (Wait t ∷ ss) =
-    cond (eqb t 0) (entriesFrom now pins changed ss) (entriesAt now 0 pins changed ++ entriesFrom (now + 25 * t) pins unchanged ss)
-entriesFrom now pins changed (Pins e v ∷ ss) =
-    entriesFrom now (set pins e v) (cond (eqb (getD pins e 0) v) changed (set changed e 1)) ss
+    cond (eqb t 0) (entriesFrom now pins changed ss) (entriesAt now 0 pins changed ++ entriesFrom (now + 25 * t) pins (replicate 20 0) ss)
+entriesFrom now pins changed (Pins e v ∷ ss) = entriesFrom now (set pins e v) (cond (eqb (getD pins e 0) v) changed (set changed e 1)) ss
 
 abbrev pub entriesIn : List Step → List Entry
-entriesIn steps = entriesFrom 0 (startOf steps) unchanged steps
+entriesIn steps = entriesFrom 0 (startOf steps) (replicate 20 0) steps
 
 -- "16 bytes each: 0-7 the time in ns, 8 bank, 9 encoder, 10 its pins after all changes at that time, 11-15 zero"
 abbrev pub entryBytes : Entry → List ℕ
 entryBytes x = leBytes 8 (x .time) ++ (x .encoder / 10 ∷ x .encoder % 10 ∷ x .pins ∷ 0 ∷ 0 ∷ 0 ∷ 0 ∷ 0 ∷ [])
-
-unfoldable pub bytesOf : List Entry → List ℕ
-bytesOf [] = []
-bytesOf (x ∷ xs) = entryBytes x ++ bytesOf xs

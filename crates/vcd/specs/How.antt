@@ -12,7 +12,7 @@ use Rattle.vcd.specs.declared.Line.{Line}
 use Rattle.vcd.specs.declared.Line.the-variants.{Fixed, Var, Unknown, Time, Change, Other}
 use Rattle.vcd.specs.declared.Reader.{Reader}
 use Rattle.vcd.specs.Lines.{fixedLines, varOf}
-use Rattle.vcd.specs.Entries.{Entry, entriesAt, unchanged}
+use Rattle.vcd.specs.Entries.{Entry, entriesAt}
 
 -- ---- a line
 
@@ -70,6 +70,10 @@ abbrev pub linesOf : List ℕ → List Line
 linesOf text = linesFrom [] text
 
 -- ---- the reader, line by line
+
+-- no encoder has changed at this time
+abbrev pub unchanged : List ℕ
+unchanged = replicate 20 0
 
 -- phases 0 to 5 await the fixed line of that number, 2 and 5 the wires before it; 6 the first time, 7 the first change at a time, 8 another
 -- change or a later time; 9 has refused

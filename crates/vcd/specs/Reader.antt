@@ -3,11 +3,11 @@ use mathlib.Core.Path.{_≡_}
 use mathlib.Core.Bool.{false}
 use mathlib.Core.List.{List, _++_}
 use Prim.Native.Nat.{ℕ, _≤_, _^_}
-use lib.ListN.{length}
+use lib.ListN.{length, replicate}
 use Rattle.vcd.specs.declared.Step.{Step}
 use Rattle.vcd.specs.Lines.{textOf}
 use Rattle.vcd.specs.Dump.{startOf, headerOf, bodyFrom, Good}
-use Rattle.vcd.specs.Entries.{Entry, unchanged, entriesFrom}
+use Rattle.vcd.specs.Entries.{Entry, entriesFrom}
 
 -- the text is the dump of some steps, and xs are the entries of these
 pub record Reads (text : List ℕ) (xs : List Entry) : Type 0 where
@@ -20,7 +20,7 @@ pub record Reads (text : List ℕ) (xs : List Entry) : Type 0 where
   pub pins : List ℕ
   pub declared : pins ≡ startOf (more ++ unknown ++ steps)
   pub dump : text ≡ textOf (headerOf pins (startOf unknown) ++ bodyFrom false 0 pins steps)
-  pub entries : xs ≡ entriesFrom 0 pins unchanged steps
+  pub entries : xs ≡ entriesFrom 0 pins (replicate 20 0) steps
   -- "no more than 25,207 bytes"
   pub short : length text ≤ 25207
 

@@ -10,8 +10,7 @@ use borrow.Author.Tests.{eq-eqb, ne-eqb, lt-ltb}
 use Rattle.vcd.specs.declared.Line.{Line}
 use Rattle.vcd.specs.declared.Line.the-variants.{Fixed, Var, Unknown, Time, Change, Other}
 use Rattle.vcd.specs.declared.Reader.{Reader}
-use Rattle.vcd.specs.Entries.{unchanged}
-use Rattle.vcd.specs.How.{refused, follows, fixedTurn, varTurn, unknownTurn, timeTurn, pinOf, taken, pinned, changeTurn, turnOf}
+use Rattle.vcd.specs.How.{refused, follows, fixedTurn, varTurn, unknownTurn, timeTurn, pinOf, taken, pinned, changeTurn, turnOf, unchanged}
 use Rattle.vcd_read.specs.Bounds.{Bounded}
 
 pub taken-then : (awaited p w b : ℕ) → (awaited ≡ 0 → ⊥) → eqb w awaited ≡ taken awaited p w b

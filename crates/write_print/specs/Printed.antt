@@ -10,5 +10,5 @@ use Rattle.printed.specs.Printed.{Prints, Complains}
 
 -- with room for the longest log. What is no number is said to be none, as EDITION
 abbrev pub WritePrinted : Decimal → List ℕ → List ℕ → List ℕ → Printed → Type 0
-WritePrinted NoNumber notes run out′ p = Complains (noNumberText (69 ∷ 68 ∷ 73 ∷ 84 ∷ 73 ∷ 79 ∷ 78 ∷ [])) out′ p
+WritePrinted NoNumber notes run out′ p = Complains (noNumberText (ascii "EDITION")) out′ p
 WritePrinted (Number edition) notes run out′ p = let w = writtenOf edition notes run 32_768 in Prints (w .refused) (w .number) (logOf notes run edition) out′ p

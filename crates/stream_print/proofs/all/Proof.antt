@@ -1,12 +1,12 @@
 -- `stream_print::all` meets its contract. Assumes nothing.
 use Prim.Native.Nat.{_-_}
 use borrow.Author.Needs.{needs}
-use Rattle.live.specs.How.{Good}
+use Rattle.stream_print.specs.How.{Ready}
 use Rattle.stream_print.proofs.all.Statement.{statement}
 use Rattle.stream_print.proofs.all.Tie as tie
 
 abbrev Inv-loop : tie.InvT-loop
-Inv-loop s₀ reads₀ s reads = Good s
+Inv-loop s₀ reads₀ s reads = Ready s
 
 abbrev μ-loop : tie.MeasureT-loop
 μ-loop s₀ reads₀ s reads = 18_446_744_073_709_551_615 - reads

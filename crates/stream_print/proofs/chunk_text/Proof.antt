@@ -1,6 +1,6 @@
 -- `stream_print::chunk_text` meets its contract. Assumes nothing.
 use borrow.Author.Needs.{needs}
-use Rattle.stream_print.proofs.Shows.{after, readings-fit, inside, front, shown, shown-short}
+use Rattle.stream_print.proofs.Shows.{after, readings-fit, inside, front, shown, shown-short, ready-after}
 use Rattle.stream_print.proofs.chunk_text.Statement.{statement}
 use Rattle.stream_print.proofs.chunk_text.Tie as tie
 
@@ -15,4 +15,4 @@ chunk-text-spec =
     (λ c. search front)
     (λ c κs. search needs)
     (λ c. search needs)
-    (λ c. (search after, (search shown, (search shown-short, search needs)))))
+    (λ c. (search after, (search shown, (search shown-short, search ready-after)))))

@@ -1,6 +1,7 @@
 -- `stream_print::stream_input` meets its contract. Assumes nothing.
 use borrow.Author.Needs.{needs}
 use Rattle.printed.proofs.Prints.{put-counts}
+use Rattle.stream_print.proofs.Shows.{ready-first}
 use Rattle.stream_print.proofs.stream_input.Statement.{statement}
 use Rattle.stream_print.proofs.stream_input.Tie as tie
 
@@ -25,7 +26,7 @@ stream-input-spec =
     (λ c. search needs)
     (λ c. search put-counts)
     (λ c κs. search needs)
-    (λ c κs. search needs)
+    (λ c κs. search ready-first)
     (λ c κs. search needs)
     (λ c. search needs)
     (λ c. search put-counts))
