@@ -8,12 +8,13 @@ use lib.Dec.{ltb, eqb}
 use lib.ListN.{length, take, drop, length-append}
 use lib.Seq.{take-at, length-take-le}
 use borrow.Author.Tests.{lt-ltb, le-ltb, eq-eqb, ne-eqb, eqb-true, eqb-false, ltb-true, ltb-false}
+use Rattle.decimal.specs.Ascii.{ascii}
 use Rattle.io.specs.Counts.{Counts}
 use Rattle.decimal.specs.Digits.{digitsOf}
 use Rattle.decimal.specs.Put.{Put}
 use Rattle.decimal.proofs.Back.{twenty-digits}
 use Rattle.decimal.proofs.Puts.{put-whole, put-long}
-use Rattle.text.specs.Text.{line, refusedWord, recordWord, refusedText, refusedRecordText}
+use Rattle.text.specs.Text.{line, refusedText, refusedRecordText}
 use Rattle.printed.specs.declared.Printed.{Printed}
 use Rattle.printed.specs.Printed.{printedBy, Prints, Printing}
 
@@ -30,12 +31,12 @@ arm f a b out out′ n e x = rw e x
 
 -- how long the two refusals are
 refused-short : (k : ℕ) → k < 2 ^ 64 → length (refusedText k) ≤ 29
-refused-short k h = omega (arith, length-append (refusedWord ++ digitsOf k) (10 ∷ []), length-append refusedWord (digitsOf k), twenty-digits k h)
+refused-short k h = omega (arith, length-append (ascii "refused " ++ digitsOf k) (10 ∷ []), length-append (ascii "refused ") (digitsOf k), twenty-digits k h)
 
 record-short : (k i : ℕ) → k < 2 ^ 64 → i < 2 ^ 64 → length (refusedRecordText k i) ≤ 57
 record-short k i h l =
-    let first = refusedWord ++ digitsOf k in
-    omega (arith, length-append (first ++ recordWord ++ digitsOf i) (10 ∷ []), length-append (first ++ recordWord) (digitsOf i), length-append first recordWord, length-append refusedWord (digitsOf k), twenty-digits k h, twenty-digits i l)
+    let first = ascii "refused " ++ digitsOf k in
+    omega (arith, length-append (first ++ ascii " record " ++ digitsOf i) (10 ∷ []), length-append (first ++ ascii " record ") (digitsOf i), length-append first (ascii " record "), length-append (ascii "refused ") (digitsOf k), twenty-digits k h, twenty-digits i l)
 
 -- a call has left `mid`: the text's bytes in front of others, n of them, or was refused by k
 module _ (k i n : ℕ) (text rest mid out′ : List ℕ) (p : Printed) (x : Printing k i n mid out′ p) where

@@ -8,15 +8,16 @@ use lib.Dec.{eqb, ltb}
 use lib.IntN.{ℤ, pos, negsuc, negℤ, natAbs, subℕ, _+ℤ_, _-ℤ_}
 use lib.ListN.{length, length-append}
 use borrow.Author.Tests.{ltb-true}
+use Rattle.decimal.specs.Ascii.{ascii}
 use Rattle.decimal.specs.Digits.{digitsOf}
 use Rattle.decimal.proofs.Back.{few-digits, twenty-digits}
 use Rattle.fold.specs.Run.{concat}
 use Rattle.shaft.specs.Shaft.{forward, backward, still}
-use Rattle.text.specs.Text.{line, stopText, appliedWord, refusedWord}
+use Rattle.text.specs.Text.{line, stopText}
 use Rattle.sign.specs.Sign.{Entry, Verdict, settled, unsettled, verdictOf}
 use Rattle.sign.specs.Facts.{Each}
 use Rattle.sign.proofs.Fine.{Fine}
-use Rattle.sign_print.specs.Said.{bankWord, encoderWord, recordsWord, toWord, comma, pinWord, stepWord, doubleWord, travelWord, openWord, shortWord, plural, counted, signed, stepsText, placeText, sumsText, travelText, verdictText, stretchText}
+use Rattle.sign_print.specs.Said.{plural, counted, signed, stepsText, placeText, sumsText, travelText, verdictText, stretchText}
 
 four : (n : ℕ) → n < 10000 → length (digitsOf n) ≤ 4
 four n h = few-digits n 3 (omega arith)
@@ -40,17 +41,17 @@ signed-long (negsuc n) h = omega (arith, four (suc n) h)
 place-long : (k i f l : ℕ) → k < 10 → i < 10 → f < 10000 → l < 10000 → length (placeText k i f l) ≤ 38
 unfolding placeText
 place-long k i f l hk hi hf hl =
-    let a = bankWord ++ digitsOf k in
-    let b = a ++ encoderWord ++ digitsOf i in
-    let c = b ++ recordsWord ++ digitsOf f in
-    omega (arith, length-append (c ++ toWord) (digitsOf l), length-append c toWord, length-append (b ++ recordsWord) (digitsOf f), length-append b recordsWord, length-append (a ++ encoderWord) (digitsOf i), length-append a encoderWord, length-append bankWord (digitsOf k), few-digits k 0 (omega arith), few-digits i 0 (omega arith), four f hf, four l hl)
+    let a = ascii "bank " ++ digitsOf k in
+    let b = a ++ ascii " encoder " ++ digitsOf i in
+    let c = b ++ ascii ": records " ++ digitsOf f in
+    omega (arith, length-append (c ++ ascii " to ") (digitsOf l), length-append c (ascii " to "), length-append (b ++ ascii ": records ") (digitsOf f), length-append b (ascii ": records "), length-append (a ++ ascii " encoder ") (digitsOf i), length-append a (ascii " encoder "), length-append (ascii "bank ") (digitsOf k), few-digits k 0 (omega arith), few-digits i 0 (omega arith), four f hf, four l hl)
 
 sums-long : (n d : ℕ) (s : ℤ) → n < 10000 → d < 10000 → natAbs s < 10000 → length (sumsText n s d) ≤ 45
 unfolding sumsText
 sums-long n d s hn hd hs =
-    let a = comma ++ counted n pinWord in
+    let a = ascii ", " ++ counted n (ascii " pin") in
     let b = a ++ stepsText s in
-    omega (arith, length-append (b ++ comma) (counted d doubleWord), length-append b comma, length-append a (stepsText s), length-append comma (counted n pinWord), length-append (comma ++ signed s) (plural stepWord (natAbs s)), length-append comma (signed s), counted-long n pinWord hn, counted-long d doubleWord hd, signed-long s hs, plural-long stepWord (natAbs s))
+    omega (arith, length-append (b ++ ascii ", ") (counted d (ascii " double change")), length-append b (ascii ", "), length-append a (stepsText s), length-append (ascii ", ") (counted n (ascii " pin")), length-append (ascii ", " ++ signed s) (plural (ascii " step") (natAbs s)), length-append (ascii ", ") (signed s), counted-long n (ascii " pin") hn, counted-long d (ascii " double change") hd, signed-long s hs, plural-long (ascii " step") (natAbs s))
 
 sub-size : (a b : ℕ) → natAbs (subℕ a b) ≤ a + b
 sub-size a b = by (ltb a b) refl
@@ -76,7 +77,7 @@ travel-long s d hs hd =
     let most = signed (s +ℤ pos (2 * d)) in
     let p = signed-long (s -ℤ pos (2 * d)) (omega (arith, sum-size s (negℤ (pos (2 * d))), neg-size (2 * d))) in
     let q = signed-long (s +ℤ pos (2 * d)) (omega (arith, sum-size s (pos (2 * d)))) in
-    omega (arith, length-append (travelWord ++ least ++ toWord) most, length-append (travelWord ++ least) toWord, length-append travelWord least)
+    omega (arith, length-append (ascii ", travel " ++ least ++ ascii " to ") most, length-append (ascii ", travel " ++ least) (ascii " to "), length-append (ascii ", travel ") least)
 
 verdict-long : (v : Verdict) (size d : ℕ) → d < 2048 → length (verdictText v size d) ≤ 39
 verdict-long (settled forward) size d h = omega arith
@@ -84,7 +85,7 @@ verdict-long (settled backward) size d h = omega arith
 verdict-long (settled still) size d h = omega arith
 verdict-long unsettled size d h =
     let n = 2 * d + 1 - size in
-    omega (arith, length-append (openWord ++ counted n stepWord) shortWord, length-append openWord (counted n stepWord), counted-long n stepWord (omega arith))
+    omega (arith, length-append (ascii ": open, " ++ counted n (ascii " step")) (ascii " short of a direction"), length-append (ascii ": open, ") (counted n (ascii " step")), counted-long n (ascii " step") (omega arith))
 
 line-long : (e : Entry) → Fine e → length (stretchText e) ≤ 146
 unfolding stretchText
@@ -108,6 +109,6 @@ lines-long (e ∷ es) h = omega (arith, length-append (stretchText e) (concat (m
 
 pub stop-long : (k r : ℕ) → k < 2 ^ 64 → r < 2 ^ 64 → length (stopText k r) ≤ 58
 stop-long k r p q =
-    let first = appliedWord ++ digitsOf k in
-    let second = first ++ (32 ∷ refusedWord) in
-    omega (arith, length-append (second ++ digitsOf r) (10 ∷ []), length-append second (digitsOf r), length-append first (32 ∷ refusedWord), length-append appliedWord (digitsOf k), twenty-digits k p, twenty-digits r q)
+    let first = ascii "applied " ++ digitsOf k in
+    let second = first ++ (ascii " refused ") in
+    omega (arith, length-append (second ++ digitsOf r) (10 ∷ []), length-append second (digitsOf r), length-append first (ascii " refused "), length-append (ascii "applied ") (digitsOf k), twenty-digits k p, twenty-digits r q)

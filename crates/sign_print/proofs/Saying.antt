@@ -8,6 +8,7 @@ use lib.Dec.{leb}
 use lib.ListN.{length, length-append, take}
 use lib.Seq.{take-all, length-take-le}
 use borrow.Author.Tests.{le-leb}
+use Rattle.decimal.specs.Ascii.{ascii}
 use Rattle.io.specs.Counts.{Counts}
 use Rattle.decimal.specs.Put.{Put}
 use Rattle.decimal.proofs.Puts.{put-nothing, put-then, put-long}
@@ -16,7 +17,6 @@ use Rattle.fold.specs.Output.{numberOf, stopOf}
 use Rattle.fold.specs.declared.Stop.{Stop}
 use Rattle.replay.specs.Replay.{replayOf}
 use Rattle.form.specs.Form.{formText}
-use Rattle.text.specs.Text.{appliedWord, refusedWord}
 use Rattle.wire.specs.Trailer.{recordsOf}
 use Rattle.wire.proofs.Laws.{few-records}
 use Rattle.sign.specs.Sign.{stretchesOf, listing, pinsRecords, signOf, signedOf, signOutput}
@@ -83,7 +83,7 @@ module _ (log entries text₀ : List ℕ) (n : ℕ) (text : List ℕ) (end i : �
 -- ---- the last line
 
 module _ (log : List ℕ) (stop : Stop) (is : stop ≡ stopOf (replayOf log 16_384)) where
-  pub stop-said : (text text′ : List ℕ) (at r : ℕ) → Put text at (formText (appliedWord ++ 35 ∷ 32 ∷ refusedWord ++ 35 ∷ 10 ∷ []) (stop .applied ∷ stop .refused ∷ [])) text′ r → Put text at (endText log) text′ r
+  pub stop-said : (text text′ : List ℕ) (at r : ℕ) → Put text at (formText (ascii "applied " ++ 35 ∷ 32 ∷ ascii "refused " ++ 35 ∷ 10 ∷ []) (stop .applied ∷ stop .refused ∷ [])) text′ r → Put text at (endText log) text′ r
   unfolding endText stopOf
   stop-said text text′ at r x = rw is at (rw (stop-line (stop .applied) (stop .refused)) at x)
 

@@ -11,6 +11,7 @@ use lib.IntN.{ℤ, pos, negsuc, natAbs, subℕ, _+ℤ_, _-ℤ_}
 use lib.ListN.{length, take, drop, getD, length-append}
 use lib.Seq.{take-suc, split-at, length-take-le}
 use borrow.Author.Tests.{lt-ltb, le-ltb, ne-eqb, ltb-true, ltb-false}
+use Rattle.decimal.specs.Ascii.{ascii}
 use Rattle.decimal.specs.Digits.{digitsOf}
 use Rattle.decimal.proofs.Back.{digits-small}
 use Rattle.form.specs.Form.{signOf, pluralOf, formText}
@@ -26,7 +27,7 @@ use Rattle.sign.proofs.Counted.{below}
 use Rattle.sign.proofs.Listing.{length-concat, concat-more, entry-long}
 use Rattle.sign.proofs.Adding.{eight}
 use Rattle.sign.proofs.Settling.{few-verdicts, each-at}
-use Rattle.sign_print.specs.Said.{bankWord, encoderWord, recordsWord, toWord, comma, pinWord, stepWord, doubleWord, travelWord, plural, counted, signed, placeText, sumsText, travelText, verdictText, stretchText}
+use Rattle.sign_print.specs.Said.{plural, counted, signed, placeText, sumsText, travelText, verdictText, stretchText}
 use Rattle.sign_print.specs.How.{wholeOf, stretchForm, numbersBy, numberedText, spelt, speltAt, There}
 
 -- ---- an entry's four numbers
@@ -100,11 +101,11 @@ grouped : (a b c d e f g h i j k l m n o p q r s t u v w x : List ℕ)
 grouped a b c d e f g h i j k l m n o p q r s t u v w x = simp (append-assoc, append-nil)
 
 form-is : (b i f l n s d least most : ℕ) → formText stretchForm (numbersBy b i f l n s d least most)
-    ≡ placeText b i f l ++ (comma ++ counted n pinWord ++ (comma ++ signed (wholeOf s) ++ plural stepWord (natAbs (wholeOf s))) ++ comma ++ counted d doubleWord) ++ (travelWord ++ signed (wholeOf least) ++ toWord ++ signed (wholeOf most))
+    ≡ placeText b i f l ++ (ascii ", " ++ counted n (ascii " pin") ++ (ascii ", " ++ signed (wholeOf s) ++ plural (ascii " step") (natAbs (wholeOf s))) ++ ascii ", " ++ counted d (ascii " double change")) ++ (ascii ", travel " ++ signed (wholeOf least) ++ ascii " to " ++ signed (wholeOf most))
 unfolding formText placeText
 form-is b i f l n s d least most =
     let z : ℕ → List ℕ = λ (k : ℕ). digitsOf (natAbs (wholeOf k)) in
-    grouped bankWord (digitsOf b) encoderWord (digitsOf i) recordsWord (digitsOf f) toWord (digitsOf l) comma (digitsOf n) pinWord (pluralOf n) (signOf s) (z s) stepWord (pluralOf (natAbs (wholeOf s))) (digitsOf d) doubleWord (pluralOf d) travelWord (signOf least) (z least) (signOf most) (z most)
+    grouped (ascii "bank ") (digitsOf b) (ascii " encoder ") (digitsOf i) (ascii ": records ") (digitsOf f) (ascii " to ") (digitsOf l) (ascii ", ") (digitsOf n) (ascii " pin") (pluralOf n) (signOf s) (z s) (ascii " step") (pluralOf (natAbs (wholeOf s))) (digitsOf d) (ascii " double change") (pluralOf d) (ascii ", travel ") (signOf least) (z least) (signOf most) (z most)
     ∙ rw (signed-is s, signed-is least, signed-is most)
 
 spelt-by : (n x b i v f l m d s : ℕ) → n % 256 ≡ b → n / 256 % 256 ≡ i → n / 65536 % 4 ≡ v → n / 4294967296 ≡ f → x % 4294967296 ≡ l → x / 4294967296 ≡ m

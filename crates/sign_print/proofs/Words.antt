@@ -6,13 +6,13 @@ use native.Mathlib.Omega.{arith}
 use lib.IntN.{natAbs}
 use lib.ListN.{take, drop}
 use borrow.Author.Tests.{lt-ltb, le-ltb}
+use Rattle.decimal.specs.Ascii.{ascii}
 use Rattle.decimal.specs.Digits.{digitsOf}
 use Rattle.decimal.specs.Put.{Put}
 use Rattle.decimal.proofs.Puts.{put-then}
 use Rattle.form.specs.Form.{pluralOf, formText}
-use Rattle.text.specs.Text.{line, appliedWord, refusedWord, stopText}
+use Rattle.text.specs.Text.{line, stopText}
 use Rattle.wire.specs.Bytes.{leOf}
-use Rattle.sign_print.specs.Said.{stepWord, openWord, shortWord}
 use Rattle.sign_print.specs.How.{wholeOf, stretchForm, numbersOf, verdictWords, wordsAt, numberedText, spelt, speltAt}
 
 module _ (n : ℕ) where
@@ -31,7 +31,7 @@ grouped a b c d e f = simp append-assoc
 
 worded : (v size d n : ℕ) → v < 4 → n ≡ 2 * d + 1 - size → formText (take (wordsAt (v + 1) - wordsAt v) (drop (wordsAt v) verdictWords)) (n ∷ n ∷ []) ≡ line (numberedText v size d)
 unfolding formText numberedText
-worded zero size d n h e = rw (← e) (grouped openWord (digitsOf n) stepWord (pluralOf n) shortWord (10 ∷ []))
+worded zero size d n h e = rw (← e) (grouped (ascii ": open, ") (digitsOf n) (ascii " step") (pluralOf n) (ascii " short of a direction") (10 ∷ []))
 worded (suc zero) size d n h e = refl
 worded (suc (suc zero)) size d n h e = refl
 worded (suc (suc (suc zero))) size d n h e = refl
@@ -78,6 +78,6 @@ entry-spelt s a b at p q k l m n ik il im is x = rw (← ik, ← il, ← im, ←
 in-line : (a b c d e : List ℕ) → a ++ (b ++ (c ++ (d ++ e))) ≡ a ++ b ++ c ++ d ++ e
 in-line a b c d e = simp append-assoc
 
-pub stop-line : (k r : ℕ) → formText (appliedWord ++ 35 ∷ 32 ∷ refusedWord ++ 35 ∷ 10 ∷ []) (k ∷ r ∷ []) ≡ stopText k r
+pub stop-line : (k r : ℕ) → formText (ascii "applied " ++ 35 ∷ 32 ∷ ascii "refused " ++ 35 ∷ 10 ∷ []) (k ∷ r ∷ []) ≡ stopText k r
 unfolding formText
-stop-line k r = in-line appliedWord (digitsOf k) (32 ∷ refusedWord) (digitsOf r) (10 ∷ [])
+stop-line k r = in-line (ascii "applied ") (digitsOf k) (ascii " refused ") (digitsOf r) (10 ∷ [])

@@ -8,11 +8,12 @@ use Prim.Native.Nat.{ℕ, _+_, _-_, _*_, _/_, _%_, _<_, _≤_}
 use lib.Dec.{eqb, ltb}
 use lib.IntN.{ℤ, pos, negsuc, natAbs}
 use lib.ListN.{length, getD}
+use Rattle.decimal.specs.Ascii.{ascii}
 use Rattle.form.specs.Form.{formText}
 use Rattle.text.specs.Text.{line}
 use Rattle.wire.specs.Bytes.{leOf}
 use Rattle.sign.specs.Sign.{stretchesOf, listing}
-use Rattle.sign_print.specs.Said.{bankWord, encoderWord, recordsWord, toWord, comma, pinWord, stepWord, doubleWord, travelWord, forwardWord, backwardWord, stillWord, openWord, shortWord, counted}
+use Rattle.sign_print.specs.Said.{counted}
 
 -- two's complement
 unfoldable pub wholeOf : ℕ → ℤ
@@ -22,8 +23,8 @@ wholeOf n = cond (ltb n 9223372036854775808) (pos n) (negsuc (184467440737095516
 
 abbrev pub stretchForm : List ℕ
 stretchForm =
-    bankWord ++ 35 ∷ encoderWord ++ 35 ∷ recordsWord ++ 35 ∷ toWord ++ 35 ∷ comma ++ 35 ∷ pinWord ++ 126 ∷ comma ++ 94 ∷ 35 ∷ stepWord
-    ++ 126 ∷ comma ++ 35 ∷ doubleWord ++ 126 ∷ travelWord ++ 94 ∷ 35 ∷ toWord ++ 94 ∷ 35 ∷ []
+    ascii "bank " ++ 35 ∷ ascii " encoder " ++ 35 ∷ ascii ": records " ++ 35 ∷ ascii " to " ++ 35 ∷ ascii ", " ++ 35 ∷ ascii " pin" ++ 126 ∷ ascii ", " ++ 94 ∷ 35 ∷ (ascii " step")
+    ++ 126 ∷ ascii ", " ++ 35 ∷ ascii " double change" ++ 126 ∷ ascii ", travel " ++ 94 ∷ 35 ∷ ascii " to " ++ 94 ∷ 35 ∷ []
 
 -- what it is filled in by: bank, encoder, first and last record; pins, steps and double changes, each with its s; the travel
 abbrev pub numbersBy : ℕ → ℕ → ℕ → ℕ → ℕ → ℕ → ℕ → ℕ → ℕ → List ℕ
@@ -38,14 +39,14 @@ numbersOf names span steps d =
 
 -- "0 open, 1 forward, 2 backward, 3 still": the words in this order, and where each of them starts
 abbrev pub verdictWords : List ℕ
-verdictWords = openWord ++ 35 ∷ stepWord ++ 126 ∷ shortWord ++ 10 ∷ forwardWord ++ 10 ∷ backwardWord ++ 10 ∷ stillWord ++ 10 ∷ []
+verdictWords = ascii ": open, " ++ 35 ∷ ascii " step" ++ 126 ∷ ascii " short of a direction" ++ 10 ∷ ascii ": forward" ++ 10 ∷ ascii ": backward" ++ 10 ∷ ascii ": still" ++ 10 ∷ []
 
 abbrev pub wordsAt : ℕ → ℕ
 wordsAt v = getD (0 ∷ 37 ∷ 47 ∷ 58 ∷ 66 ∷ []) v 0
 
 unfoldable pub numberedText : ℕ → ℕ → ℕ → List ℕ
 numberedText v size d =
-    cond (eqb v 1) forwardWord (cond (eqb v 2) backwardWord (cond (eqb v 3) stillWord (openWord ++ counted (2 * d + 1 - size) stepWord ++ shortWord)))
+    cond (eqb v 1) (ascii ": forward") (cond (eqb v 2) (ascii ": backward") (cond (eqb v 3) (ascii ": still") (ascii ": open, " ++ counted (2 * d + 1 - size) (ascii " step") ++ ascii " short of a direction")))
 
 unfoldable pub spelt : ℕ → ℕ → ℕ → ℕ → List ℕ
 spelt names span steps d = formText stretchForm (numbersOf names span steps d) ++ line (numberedText (names / 65536 % 4) (natAbs (wholeOf steps)) d)

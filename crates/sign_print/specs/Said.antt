@@ -16,50 +16,6 @@ use Rattle.shaft.specs.Shaft.{forward, backward, still}
 use Rattle.text.specs.Text.{line, stopText}
 use Rattle.sign.specs.Sign.{Entry, stretchesOf, Verdict, settled, unsettled, verdictOf}
 
--- the fixed words: "bank ", " encoder ", ": records ", " to ", ", ", " pin", " step", " double change" and ", travel "
-abbrev pub bankWord : List ℕ
-bankWord = ascii "bank "
-
-abbrev pub encoderWord : List ℕ
-encoderWord = ascii " encoder "
-
-abbrev pub recordsWord : List ℕ
-recordsWord = ascii ": records "
-
-abbrev pub toWord : List ℕ
-toWord = ascii " to "
-
-abbrev pub comma : List ℕ
-comma = ascii ", "
-
-abbrev pub pinWord : List ℕ
-pinWord = ascii " pin"
-
-abbrev pub stepWord : List ℕ
-stepWord = ascii " step"
-
-abbrev pub doubleWord : List ℕ
-doubleWord = ascii " double change"
-
-abbrev pub travelWord : List ℕ
-travelWord = ascii ", travel "
-
--- the verdicts: ": forward", ": backward", ": still", and ": open, " with " short of a direction"
-abbrev pub forwardWord : List ℕ
-forwardWord = ascii ": forward"
-
-abbrev pub backwardWord : List ℕ
-backwardWord = ascii ": backward"
-
-abbrev pub stillWord : List ℕ
-stillWord = ascii ": still"
-
-abbrev pub openWord : List ℕ
-openWord = ascii ": open, "
-
-abbrev pub shortWord : List ℕ
-shortWord = ascii " short of a direction"
-
 -- `1 pin`, `2 pins`
 abbrev pub plural : List ℕ → ℕ → List ℕ
 plural word n = word ++ cond (eqb n 1) [] (ascii "s")
@@ -75,23 +31,23 @@ signed (negsuc n) = 45 ∷ digitsOf (suc n)
 
 -- the steps S settle a direction where they exceed 2d in size: by how many they are short of that
 abbrev pub verdictText : Verdict → ℕ → ℕ → List ℕ
-verdictText (settled forward) size d = forwardWord
-verdictText (settled backward) size d = backwardWord
-verdictText (settled still) size d = stillWord
-verdictText unsettled size d = openWord ++ counted (2 * d + 1 - size) stepWord ++ shortWord
+verdictText (settled forward) size d = ascii ": forward"
+verdictText (settled backward) size d = ascii ": backward"
+verdictText (settled still) size d = ascii ": still"
+verdictText unsettled size d = ascii ": open, " ++ counted (2 * d + 1 - size) (ascii " step") ++ ascii " short of a direction"
 
 -- where a stretch stands; its pins records, its steps and its double changes; "travel as a range: S - 2d to S + 2d"
 unfoldable pub placeText : ℕ → ℕ → ℕ → ℕ → List ℕ
-placeText bank encoder first last = bankWord ++ digitsOf bank ++ encoderWord ++ digitsOf encoder ++ recordsWord ++ digitsOf first ++ toWord ++ digitsOf last
+placeText bank encoder first last = ascii "bank " ++ digitsOf bank ++ ascii " encoder " ++ digitsOf encoder ++ ascii ": records " ++ digitsOf first ++ ascii " to " ++ digitsOf last
 
 abbrev pub stepsText : ℤ → List ℕ
-stepsText s = comma ++ signed s ++ plural stepWord (natAbs s)
+stepsText s = ascii ", " ++ signed s ++ plural (ascii " step") (natAbs s)
 
 unfoldable pub sumsText : ℕ → ℤ → ℕ → List ℕ
-sumsText n s d = comma ++ counted n pinWord ++ stepsText s ++ comma ++ counted d doubleWord
+sumsText n s d = ascii ", " ++ counted n (ascii " pin") ++ stepsText s ++ ascii ", " ++ counted d (ascii " double change")
 
 unfoldable pub travelText : ℤ → ℕ → List ℕ
-travelText s d = travelWord ++ signed (s -ℤ pos (2 * d)) ++ toWord ++ signed (s +ℤ pos (2 * d))
+travelText s d = ascii ", travel " ++ signed (s -ℤ pos (2 * d)) ++ ascii " to " ++ signed (s +ℤ pos (2 * d))
 
 unfoldable pub stretchText : Entry → List ℕ
 stretchText e = let s = e .steps in let d = e .doubles in

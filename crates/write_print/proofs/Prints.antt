@@ -7,6 +7,7 @@ use native.Mathlib.Omega.{arith}
 use lib.Dec.{ltb, eqb}
 use lib.ListN.{length, take, drop, length-append}
 use borrow.Author.Tests.{le-ltb, ltb-false, eqb-true, eqb-false}
+use Rattle.decimal.specs.Ascii.{ascii}
 use Rattle.io.specs.Counts.{Counts}
 use Rattle.decimal.specs.declared.Decimal.{Decimal}
 use Rattle.decimal.specs.declared.Decimal.the-variants.{Number, NoNumber}
@@ -14,7 +15,7 @@ use Rattle.decimal.specs.Digits.{digitsOf}
 use Rattle.decimal.specs.Put.{Put}
 use Rattle.decimal.proofs.Back.{twenty-digits}
 use Rattle.decimal.proofs.Puts.{put-whole}
-use Rattle.text.specs.Text.{line, noDecimal, noNumberText}
+use Rattle.text.specs.Text.{line, noNumberText}
 use Rattle.edition.specs.declared.Edition.{Edition}
 use Rattle.edition.specs.Edition.{known, editionOf}
 use Rattle.fold.specs.Output.{over}
@@ -109,12 +110,12 @@ module _ (edition : ℕ) (notes run out mid out′ : List ℕ) (p : Printed) (ro
 
 -- what is no number
 abbrev editionWord : List ℕ
-editionWord = 69 ∷ 68 ∷ 73 ∷ 84 ∷ 73 ∷ 79 ∷ 78 ∷ []
+editionWord = ascii "EDITION"
 
 none-short : length (noNumberText editionWord) ≤ 60
 none-short =
     let most = digitsOf 18_446_744_073_709_551_615 in
-    omega (arith, length-append editionWord (line (noDecimal ++ most)), length-append (noDecimal ++ most) (10 ∷ []), length-append noDecimal most, twenty-digits 18_446_744_073_709_551_615 (omega arith))
+    omega (arith, length-append editionWord (line (ascii " is no decimal number from 0 to " ++ most)), length-append (ascii " is no decimal number from 0 to " ++ most) (10 ∷ []), length-append (ascii " is no decimal number from 0 to ") most, twenty-digits 18_446_744_073_709_551_615 (omega arith))
 
 pub no-number-printed : (edition : Decimal) (notes run out out′ : List ℕ) (n : ℕ) → edition ≡ NoNumber → 32768 ≤ length out → Put out 0 (noNumberText editionWord) out′ n
     → WritePrinted edition notes run out′ (record { size = n; refused = true })

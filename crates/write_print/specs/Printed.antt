@@ -1,6 +1,7 @@
 -- What `rvz write` writes. Assumes nothing.
 use mathlib.Core.List.{List, [], _∷_}
 use Prim.Native.Nat.{ℕ}
+use Rattle.decimal.specs.Ascii.{ascii}
 use Rattle.decimal.specs.declared.Decimal.{Decimal}
 use Rattle.decimal.specs.declared.Decimal.the-variants.{Number, NoNumber}
 use Rattle.text.specs.Text.{noNumberText}
