@@ -1,7 +1,7 @@
 -- Entries stored one after the other. Assumes nothing.
 use mathlib.Core.Path.{_≡_, refl, sym, ap, _∙_, subst}
 use mathlib.Core.Bool.{Bool, true, false, cond}
-use mathlib.Core.List.{List, [], _∷_, _++_, append-assoc, append-nil}
+use mathlib.Core.List.{List, [], _∷_, _++_, append-assoc, append-nil, flatten}
 use Prim.Native.Nat.{ℕ, zero, suc, _+_, _*_, _/_, _%_, _≤_, _<_}
 use native.Mathlib.Omega.{arith}
 use native.Mathlib.Nat.{add-zero, add-suc, suc-add, zero-add}
@@ -10,7 +10,6 @@ use lib.Dec.{eqb}
 use lib.ListN.{length, take, getD, set, replicate, length-append}
 use lib.Seq.{sets, length-sets, take-suc, take-all, length-take-le}
 use borrow.Author.Tests.{eq-eqb, ne-eqb}
-use Rattle.fold.specs.Run.{concat}
 use Rattle.decimal.specs.Put.{Put}
 use Rattle.wire.specs.Bytes.{leBytes}
 use Rattle.vcd.specs.declared.Line.{Line}
@@ -25,17 +24,17 @@ sets-append [] t out at = rw add-zero
 sets-append (a ∷ s) t out at = rw (add-suc, ← suc-add at (length s)) (sets-append s t (set out at a) (suc at))
 
 pub bytes-append : (xs ys : List Entry) → bytesOf (xs ++ ys) ≡ bytesOf xs ++ bytesOf ys
-unfolding concat
+unfolding flatten
 bytes-append [] ys = refl
 bytes-append (x ∷ xs) ys = rw (bytes-append xs ys) (sym (append-assoc (entryBytes x) (bytesOf xs) (bytesOf ys)))
 
 pub bytes-long : (xs : List Entry) → length (bytesOf xs) ≡ 16 * length xs
-unfolding concat
+unfolding flatten
 bytes-long [] = refl
 bytes-long (x ∷ xs) = omega (arith, length-append (entryBytes x) (bytesOf xs), bytes-long xs)
 
 pub stored-none : (out : List ℕ) (n : ℕ) → Stored out n [] out n
-unfolding concat
+unfolding flatten
 stored-none out n = record { bytes = refl; number = sym (add-zero n) }
 
 pub stored-then : (a b c : List ℕ) (xs ys : List Entry) (m n k : ℕ) → Stored a m xs b n → Stored b n ys c k → Stored a m (xs ++ ys) c k
@@ -65,7 +64,7 @@ module _ (time e p c : ℕ) (out : List ℕ) (n : ℕ) where
 
   pub entry-some : (out′ x : List ℕ) (k : ℕ) → (c ≡ 0 → ⊥) → x ≡ entryBytes (record { time = time; encoder = e; pins = p }) → Put out (16 * n) x out′ k
       → Stored out n (entriesAt time e (p ∷ []) (c ∷ [])) out′ (n + 1)
-  unfolding entriesAt concat
+  unfolding entriesAt flatten
   entry-some out′ x k q is y = rw (ne-eqb c 0 q) (record { bytes = y .bytes ∙ ap (sets out (16 * n)) (is ∙ sym (append-nil _)); number = refl })
 
 -- ---- the encoders in turn

@@ -1,12 +1,11 @@
 -- Both banks as four flat lists, and back; what is in range stays so.
 -- Assumes nothing.
 use mathlib.Core.Path.{_≡_, refl, _∙_}
-use mathlib.Core.List.{List, [], _∷_, _++_, map, append-nil}
+use mathlib.Core.List.{List, [], _∷_, _++_, map, append-nil, flatten}
 use Prim.Native.Nat.{ℕ, zero, suc, _+_, _*_, _^_, _<_}
 use native.Mathlib.Omega.{arith}
 use lib.ListN.{length, take, drop, getD, length-append, length-drop}
 use lib.Seq.{take-at, drop-at, take-all, length-take-le, take-add}
-use Rattle.fold.specs.Run.{concat}
 use Rattle.encoder.specs.declared.Encoder.{Encoder}
 use Rattle.encoder.specs.Encoder as encoder
 use Rattle.pwm.specs.declared.Pwm.{Pwm}
@@ -33,10 +32,10 @@ abbrev pub i2csOf : State → List I2c
 i2csOf s = map (λ (b : Bank). b .i2c) (s .banks)
 
 abbrev pub encodersOf : State → List Encoder
-encodersOf s = concat (map (λ (b : Bank). b .encoders) (s .banks))
+encodersOf s = flatten (map (λ (b : Bank). b .encoders) (s .banks))
 
 abbrev pub pwmsOf : State → List Pwm
-pwmsOf s = concat (map (λ (b : Bank). b .pwms) (s .banks))
+pwmsOf s = flatten (map (λ (b : Bank). b .pwms) (s .banks))
 
 abbrev pub laidOut : State → Flat
 laidOut s = record { selects = selectsOf s; encoders = encodersOf s; pwms = pwmsOf s; i2cs = i2csOf s }
@@ -65,7 +64,7 @@ two-of (x ∷ y ∷ z ∷ l) d h = absurd (omega (arith, h))
 
 -- a state of two whole banks is what its lists make
 pub state-back : (s : State) → FitsState s → stateOf (laidOut s) ≡ s
-unfolding stateOf concat
+unfolding stateOf flatten
 state-back s f = go (s .banks) (f .0) (f .1 0 (omega arith)) (f .1 1 (omega arith))
   where
     go : (l : List Bank) → length l ≡ 2 → FitsBank (bankAt 0 (record { banks = l })) → FitsBank (bankAt 1 (record { banks = l })) → stateOf (laidOut (record { banks = l })) ≡ record { banks = l }
@@ -83,7 +82,7 @@ pub record Sized (f : Flat) : Type 0 where
   pub i2cs : length (f .i2cs) ≡ 2
 
 pub flat-back : (f : Flat) → Sized f → laidOut (stateOf f) ≡ f
-unfolding stateOf concat
+unfolding stateOf flatten
 flat-back f z i = record {
   selects = two-of (f .selects) 0 (z .selects) i;
   encoders = both-parts 10 (f .encoders) (z .encoders) i;
@@ -106,7 +105,7 @@ pub record FitsLists (f : Flat) : Type 0 where
   pub pwms : FitMany FitsPwm 40 (f .pwms)
 
 pub lists-fit : (s : State) → FitsState s → FitsLists (laidOut s)
-unfolding concat
+unfolding flatten
 lists-fit s f = go (s .banks) (f .0) (f .1 0 (omega arith)) (f .1 1 (omega arith))
   where
     go : (l : List Bank) → length l ≡ 2 → FitsBank (bankAt 0 (record { banks = l })) → FitsBank (bankAt 1 (record { banks = l })) → FitsLists (laidOut (record { banks = l }))

@@ -1,12 +1,11 @@
 -- A stream's image is what the code saves of it in words.
 -- Assumes nothing.
 use mathlib.Core.Path.{_≡_, refl, sym, ap, _∙_}
-use mathlib.Core.List.{List, [], _∷_, _++_, map, append-nil, append-assoc}
+use mathlib.Core.List.{List, [], _∷_, _++_, map, append-nil, append-assoc, flatten}
 use Prim.Native.Nat.{ℕ, _+_, _*_, _-_, _^_}
 use native.Mathlib.Omega.{arith}
 use lib.ListN.{length, replicate}
 use Rattle.wire.specs.Bytes.{leBytes}
-use Rattle.fold.specs.Run.{concat}
 use Rattle.encoder.specs.Encoder as encoder
 use Rattle.pwm.specs.Pwm as pwm
 use Rattle.bank.specs.declared.Bank.{Bank}
@@ -25,8 +24,8 @@ use Rattle.image.proofs.Lawful.{head-fits, head-small}
 
 module _ {X : Type 0} (save laid : X → List ℕ) (Fits : X → Type 0) (same : (x : X) → Fits x → save x ≡ laid x) where
   -- an array, each element by its own bytes
-  array-laid : (xs : List X) → Each Fits xs → saveMany save xs ≡ concat (map laid xs)
-  unfolding saveMany concat
+  array-laid : (xs : List X) → Each Fits xs → saveMany save xs ≡ flatten (map laid xs)
+  unfolding saveMany flatten
   array-laid [] f = refl
   array-laid (x ∷ xs) f = rw (same x (f .0), array-laid xs (f .1))
 
@@ -36,19 +35,19 @@ module _ {X : Type 0} (save laid : X → List ℕ) (Fits : X → Type 0) (same :
   saved-both [] ys = refl
   saved-both (x ∷ xs) ys = rw (saved-both xs ys) (sym (append-assoc (save x) (saveMany save xs) (saveMany save ys)))
 
-  arrays-laid : (xs ys : List X) → Each Fits xs → Each Fits ys → saveMany save (xs ++ (ys ++ [])) ≡ concat (map laid xs) ++ (concat (map laid ys) ++ [])
+  arrays-laid : (xs ys : List X) → Each Fits xs → Each Fits ys → saveMany save (xs ++ (ys ++ [])) ≡ flatten (map laid xs) ++ (flatten (map laid ys) ++ [])
   arrays-laid xs ys f g =
-      rw (append-nil ys, append-nil (concat (map laid ys)))
+      rw (append-nil ys, append-nil (flatten (map laid ys)))
       (saved-both xs ys ∙ rw (array-laid xs f, array-laid ys g))
 
 abbrev eachBank : (Bank → List ℕ) → State → List ℕ
-eachBank f s = concat (map f (s .banks))
+eachBank f s = flatten (map f (s .banks))
 
 abbrev laidIn : State → List ℕ
 laidIn s =
     eachBank (λ b. leBytes 8 (b .select)) s
     ++ (eachBank (λ b. i2cBytes (b .i2c)) s
-    ++ (eachBank (λ b. concat (map encoderBytes (b .encoders))) s ++ eachBank (λ b. concat (map pwmBytes (b .pwms))) s))
+    ++ (eachBank (λ b. flatten (map encoderBytes (b .encoders))) s ++ eachBank (λ b. flatten (map pwmBytes (b .pwms))) s))
 
 abbrev savedIn : State → List ℕ
 savedIn s =
@@ -56,7 +55,7 @@ savedIn s =
     ++ (saveMany (saveWord i2cNumber) (i2csOf s) ++ (saveMany (saveWord encoderNumber) (encodersOf s) ++ saveMany savePwm (pwmsOf s)))
 
 state-laid : (s : State) → FitsState s → savedIn s ≡ laidIn s
-unfolding saveMany concat
+unfolding saveMany flatten
 state-laid s f = go (s .banks) (f .0) (f .1 0 (omega arith)) (f .1 1 (omega arith))
   where
     go : (l : List Bank) → length l ≡ 2 → FitsBank (bankAt 0 (record { banks = l })) → FitsBank (bankAt 1 (record { banks = l })) → savedIn (record { banks = l }) ≡ laidIn (record { banks = l })

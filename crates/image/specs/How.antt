@@ -3,12 +3,11 @@
 -- Assumes nothing.
 use Prim.Native.Nat.{ℕ, _+_, _*_, _-_, _/_, _%_, _^_, _<_}
 use mathlib.Core.Path.{_≡_}
-use mathlib.Core.List.{List, [], _∷_, _++_, map}
+use mathlib.Core.List.{List, [], _∷_, _++_, map, flatten}
 use mathlib.Core.Bool.{Bool, _&&_, _||_}
 use lib.ListN.{length, take, drop, replicate}
 use lib.Dec.{eqb, ltb, leb}
 use Rattle.wire.specs.Bytes.{byte, leOf, leBytes}
-use Rattle.fold.specs.Run.{concat}
 use Rattle.edition.specs.Edition.{known}
 use Rattle.pwm.specs.declared.Pwm.{Pwm}
 use Rattle.bank.specs.declared.Bank.{Bank}
@@ -42,8 +41,8 @@ wordsOf l = let banks = l .state .banks in
     ++ ((l .carried ++ replicate (16 - length (l .carried)) 0)
     ++ (saveMany (leBytes 8) (map (λ (b : Bank). b .select) banks)
     ++ (saveMany (saveWord i2cNumber) (map (λ (b : Bank). b .i2c) banks)
-    ++ (saveMany (saveWord encoderNumber) (concat (map (λ (b : Bank). b .encoders) banks))
-    ++ saveMany savePwm (concat (map (λ (b : Bank). b .pwms) banks)))))))
+    ++ (saveMany (saveWord encoderNumber) (flatten (map (λ (b : Bank). b .encoders) banks))
+    ++ saveMany savePwm (flatten (map (λ (b : Bank). b .pwms) banks)))))))
 
 -- ---- loaded
 

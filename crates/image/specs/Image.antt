@@ -5,12 +5,11 @@
 -- Assumes nothing.
 use Prim.Native.Nat.{ℕ, _-_, _^_, _<_}
 use mathlib.Core.Path.{_≡_}
-use mathlib.Core.List.{List, _∷_, _++_, map}
+use mathlib.Core.List.{List, _∷_, _++_, map, flatten}
 use mathlib.Core.Bool.{true, cond, _&&_, _||_}
 use lib.ListN.{length, take, replicate}
 use lib.Dec.{eqb, leb}
 use Rattle.wire.specs.Bytes.{byte, leBytes}
-use Rattle.fold.specs.Run.{concat}
 use Rattle.edition.specs.Edition.{known}
 use Rattle.bank.specs.declared.Bank.{Bank}
 use Rattle.bank.specs.Bank.{encoderAt, pwmAt}
@@ -23,14 +22,14 @@ abbrev pub size : ℕ
 size = 864
 
 unfoldable pub imageOf : Live → List ℕ
-imageOf l = let all : (Bank → List ℕ) → List ℕ = λ f. concat (map f (l .state .banks)) in
+imageOf l = let all : (Bank → List ℕ) → List ℕ = λ f. flatten (map f (l .state .banks)) in
     (l .refused ∷ length (l .carried) ∷ leBytes 6 (l .edition))
     ++ leBytes 8 (l .applied)
     ++ l .carried ++ replicate (16 - length (l .carried)) 0
     ++ all (λ b. leBytes 8 (b .select))
     ++ all (λ b. i2cBytes (b .i2c))
-    ++ all (λ b. concat (map encoderBytes (b .encoders)))
-    ++ all (λ b. concat (map pwmBytes (b .pwms)))
+    ++ all (λ b. flatten (map encoderBytes (b .encoders)))
+    ++ all (λ b. flatten (map pwmBytes (b .pwms)))
 
 -- ---- the streams that have an image: every register in its range
 

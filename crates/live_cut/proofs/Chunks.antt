@@ -1,13 +1,13 @@
 -- Chunk after chunk is one chunk: by induction over the cuts, from the law of two.
 -- Assumes nothing.
 use mathlib.Core.Path.{_≡_, refl, sym, ap, _∙_, subst}
-use mathlib.Core.List.{List, [], _∷_, _++_, append-nil}
+use mathlib.Core.List.{List, [], _∷_, _++_, append-nil, flatten}
 use mathlib.Core.Logic.{⊎-elim}
 use Prim.Native.Nat.{ℕ, _+_, _*_, _/_, _%_, _^_, _<_}
 use native.Mathlib.Nat.{add-zero, mod-lt, mod-eq-of-lt}
 use native.Mathlib.Omega.{arith}
 use lib.ListN.{length, length-drop}
-use Rattle.fold.specs.Run.{Course, going, stopped, under, resumed, runOf, concat}
+use Rattle.fold.specs.Run.{Course, going, stopped, under, resumed, runOf}
 use Rattle.fold.specs.Output.{numberOf}
 use Rattle.fold.specs.Stream.{wholes, leftOver}
 use Rattle.fold.proofs.Streams.{no-wholes, all-left}
@@ -75,7 +75,7 @@ unfolding takenOf
 goes-on s b e = record { none = ap numberOf e; few = rw e (left-few (s .carried ++ b)); small = mod-lt (s .applied + ran s b .applied) (omega arith) }
 
 pub all-at-once : (s : Live) (cs : List Lent) → Going s → Roomy s cs → streamed s cs ≡ takenOf s (bytesIn cs)
-unfolding streamed Roomy concat
+unfolding streamed Roomy flatten
 all-at-once s [] g h = nothing-more s g
 all-at-once s (c ∷ cs) g h = by (way s (c .bytes) (c .room)) (λ q p. all-at-once q cs p)
   where

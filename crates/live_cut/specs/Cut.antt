@@ -2,8 +2,7 @@
 -- Assumes nothing.
 use Prim.Native.Nat.{ℕ}
 use mathlib.Core.Path.{_≡_}
-use mathlib.Core.List.{List, [], _∷_, _++_, map}
-use Rattle.fold.specs.Run.{concat}
+use mathlib.Core.List.{List, [], _∷_, _++_, map, flatten}
 use Rattle.live.specs.Live.{Live, Taken, chunkOf}
 
 -- a chunk's bytes, and the length of the output that is lent for it
@@ -13,7 +12,7 @@ pub record Lent : Type 0 where
 
 -- the bytes of all chunks, one chunk after the other
 abbrev pub bytesIn : List Lent → List ℕ
-bytesIn cs = concat (map (λ (c : Lent). c .bytes) cs)
+bytesIn cs = flatten (map (λ (c : Lent). c .bytes) cs)
 
 -- what chunk after chunk comes to: the stream afterwards, its refusal, and the readings, one after the other
 unfoldable pub streamed : Live → List Lent → Taken

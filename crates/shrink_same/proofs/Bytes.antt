@@ -1,13 +1,12 @@
 -- The smaller log's own trailer and records. Assumes nothing.
 use mathlib.Core.Path.{_≡_, refl, sym, ap, _∙_, subst}
 use mathlib.Core.Bool.{Bool, true, false, not, cond}
-use mathlib.Core.List.{List, [], _∷_, _++_, append-assoc}
+use mathlib.Core.List.{List, [], _∷_, _++_, append-assoc, flatten}
 use Prim.Native.Nat.{ℕ, _*_, _/_, _%_, _≤_}
 use native.Mathlib.Omega.{arith}
 use lib.ListN.{length, take, drop}
 use lib.Seq.{take-append-seam, drop-append-seam}
 use borrow.Author.Tests.{not-false}
-use Rattle.fold.specs.Run.{concat}
 use Rattle.fold.specs.Device.{records}
 use Rattle.edition.specs.Edition.{known}
 use Rattle.wire.specs.Trailer.{trailerOf, recordsAt, recordsOf}
@@ -46,22 +45,22 @@ is-known s a n e f = subst OfEdition f (of-edition s)
 
 -- ---- records between notes and trailer
 
-module _ (notes : List ℕ) (rs : List (List ℕ)) (e : ℕ) (sixteen : Sixteen rs) (is : known e ≡ true) (short : length (logOf notes (concat rs) e) ≤ 32768) where
+module _ (notes : List ℕ) (rs : List (List ℕ)) (e : ℕ) (sixteen : Sixteen rs) (is : known e ≡ true) (short : length (logOf notes (flatten rs) e) ≤ 32768) where
   abbrev tail : List ℕ
-  tail = trailer e (length (concat rs))
+  tail = trailer e (length (flatten rs))
 
-  pub new-trailer : trailerOf (logOf notes (concat rs) e) ≡ Found (length notes) (length rs) e
+  pub new-trailer : trailerOf (logOf notes (flatten rs) e) ≡ Found (length notes) (length rs) e
   new-trailer =
       let long = concat-long rs sixteen in
-      let count : length (concat rs) / 16 ≡ length rs = omega arith in
-      trailer-back e notes (concat rs) is (omega arith) short ∙ ap (λ (n : ℕ). Found (length notes) n e) count
+      let count : length (flatten rs) / 16 ≡ length rs = omega arith in
+      trailer-back e notes (flatten rs) is (omega arith) short ∙ ap (λ (n : ℕ). Found (length notes) n e) count
 
-  pub new-records : recordsOf (logOf notes (concat rs) e) ≡ rs
+  pub new-records : recordsOf (logOf notes (flatten rs) e) ≡ rs
   new-records =
-      ap (λ (x : Trailer). recordsAt x (logOf notes (concat rs) e)) new-trailer
-      ∙ ap (λ (s : List ℕ). records 16 (length rs) (drop (length notes) s)) (append-assoc notes (concat rs) tail)
-      ∙ ap (records 16 (length rs)) (drop-append-seam notes (concat rs ++ tail))
+      ap (λ (x : Trailer). recordsAt x (logOf notes (flatten rs) e)) new-trailer
+      ∙ ap (λ (s : List ℕ). records 16 (length rs) (drop (length notes) s)) (append-assoc notes (flatten rs) tail)
+      ∙ ap (records 16 (length rs)) (drop-append-seam notes (flatten rs ++ tail))
       ∙ records-concat rs tail sixteen
 
-  pub new-notes : take (length notes) (logOf notes (concat rs) e) ≡ notes
-  new-notes = ap (take (length notes)) (append-assoc notes (concat rs) tail) ∙ take-append-seam notes (concat rs ++ tail)
+  pub new-notes : take (length notes) (logOf notes (flatten rs) e) ≡ notes
+  new-notes = ap (take (length notes)) (append-assoc notes (flatten rs) tail) ∙ take-append-seam notes (flatten rs ++ tail)

@@ -1,13 +1,13 @@
 -- The facts of specs/Same.antt. Assumes nothing.
 use mathlib.Core.Path.{_≡_, refl, sym, ap, _∙_, subst}
 use mathlib.Core.Bool.{Bool, true, false, cond}
-use mathlib.Core.List.{List, [], _∷_, _++_, reverse, append-assoc}
+use mathlib.Core.List.{List, [], _∷_, _++_, reverse, append-assoc, flatten}
 use Prim.Native.Nat.{ℕ, _+_, _*_, _/_, _≤_, _<_}
 use native.Mathlib.Omega.{arith}
 use lib.Dec.{leb}
 use lib.ListN.{length, take, drop}
 use borrow.Author.Tests.{leb-true}
-use Rattle.fold.specs.Run.{Run, Course, going, stopped, under, halted, concat}
+use Rattle.fold.specs.Run.{Run, Course, going, stopped, under, halted}
 use Rattle.fold.specs.Device.{records}
 use Rattle.fold.specs.Shrink as fold
 use Rattle.fold.proofs.Laws as laws
@@ -68,8 +68,8 @@ module _ (log : List ℕ) (room : ℕ) (goes : replayOf log room .course ≡ goi
           let six = ap (λ (t : Bool). cond t (played (editionOf e) (records 16 n (drop a log))) (halted fresh 0 [] 6) .course) h in
           absurd (halts 6 (sym (there ∙ six) ∙ goes))
 
-  is-log : smallerOf log ≡ logOf (take a log) (concat (kept [] rs)) e
-  is-log = ap (λ (t : Trailer). smallerAt t log) f ∙ ap (λ (l : List (List ℕ)). logOf (take a log) (concat (kept [] l)) e) (sym here)
+  is-log : smallerOf log ≡ logOf (take a log) (flatten (kept [] rs)) e
+  is-log = ap (λ (t : Trailer). smallerAt t log) f ∙ ap (λ (l : List (List ℕ)). logOf (take a log) (flatten (kept [] l)) e) (sym here)
 
   whole : Sixteen (kept [] rs)
   whole =
@@ -78,7 +78,7 @@ module _ (log : List ℕ) (room : ℕ) (goes : replayOf log room .course ≡ goi
   less : length (smallerOf log) ≤ length log
   less = rw (log-smaller log room goes a n e f) (shorter log a n (log-ready log room goes a n e f) e log)
 
-  short : length (logOf (take a log) (concat (kept [] rs)) e) ≤ 32768
+  short : length (logOf (take a log) (flatten (kept [] rs)) e) ≤ 32768
   short = omega (arith, less, ends log a n e f, ap length is-log)
 
   notes : length (take a log) ≡ a
@@ -89,7 +89,7 @@ module _ (log : List ℕ) (room : ℕ) (goes : replayOf log room .course ≡ goi
 
   its-notes : take a (smallerOf log) ≡ take a log
   its-notes =
-      ap (take a) is-log ∙ ap (λ (b : ℕ). take b (logOf (take a log) (concat (kept [] rs)) e)) (sym notes)
+      ap (take a) is-log ∙ ap (λ (b : ℕ). take b (logOf (take a log) (flatten (kept [] rs)) e)) (sym notes)
       ∙ new-notes (take a log) (kept [] rs) e whole (is-known log a n e f) short
 
   its-records : recordsOf (smallerOf log) ≡ kept [] rs
@@ -109,9 +109,9 @@ module _ (log : List ℕ) (room : ℕ) (goes : replayOf log room .course ≡ goi
   same-again : smallerOf (smallerOf log) ≡ smallerOf log
   same-again =
       ap (λ (t : Trailer). smallerAt t (smallerOf log)) its-trailer
-      ∙ ap (λ (l : List (List ℕ)). logOf (take a (smallerOf log)) (concat (kept [] l)) e) (sym (ap (λ (t : Trailer). recordsAt t (smallerOf log)) its-trailer) ∙ its-records)
-      ∙ ap (λ (l : List (List ℕ)). logOf (take a (smallerOf log)) (concat l) e) (kept-twice o rs plays)
-      ∙ ap (λ (l : List ℕ). logOf l (concat (kept [] rs)) e) its-notes
+      ∙ ap (λ (l : List (List ℕ)). logOf (take a (smallerOf log)) (flatten (kept [] l)) e) (sym (ap (λ (t : Trailer). recordsAt t (smallerOf log)) its-trailer) ∙ its-records)
+      ∙ ap (λ (l : List (List ℕ)). logOf (take a (smallerOf log)) (flatten l) e) (kept-twice o rs plays)
+      ∙ ap (λ (l : List ℕ). logOf l (flatten (kept [] rs)) e) its-notes
       ∙ sym is-log
 
 -- a log that replays has a trailer

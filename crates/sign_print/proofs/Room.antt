@@ -1,7 +1,7 @@
 -- How long the text can be. Assumes nothing.
 use mathlib.Core.Path.{_≡_, refl, sym, ap, _∙_}
 use mathlib.Core.Bool.{Bool, true, false, cond}
-use mathlib.Core.List.{List, [], _∷_, _++_, map}
+use mathlib.Core.List.{List, [], _∷_, _++_, map, flatten}
 use Prim.Native.Nat.{ℕ, zero, suc, _+_, _-_, _*_, _^_, _<_, _≤_}
 use native.Mathlib.Omega.{arith}
 use lib.Dec.{eqb, ltb}
@@ -11,7 +11,6 @@ use borrow.Author.Tests.{ltb-true}
 use Rattle.decimal.specs.Ascii.{ascii}
 use Rattle.decimal.specs.Digits.{digitsOf}
 use Rattle.decimal.proofs.Back.{few-digits, twenty-digits}
-use Rattle.fold.specs.Run.{concat}
 use Rattle.shaft.specs.Shaft.{forward, backward, still}
 use Rattle.text.specs.Text.{line, stopText}
 use Rattle.sign.specs.Sign.{Entry, Verdict, settled, unsettled, verdictOf}
@@ -102,10 +101,10 @@ line-long e x =
     let w : length v ≤ 39 = verdict-long (verdictOf s d) (natAbs s) d (x .doubles) in
     omega (arith, length-append (a ++ b ++ t ++ v) (10 ∷ []), length-append (a ++ b ++ t) v, length-append (a ++ b) t, length-append a b)
 
-pub lines-long : (es : List Entry) → Each Fine es → length (concat (map stretchText es)) ≤ 146 * length es
-unfolding concat
+pub lines-long : (es : List Entry) → Each Fine es → length (flatten (map stretchText es)) ≤ 146 * length es
+unfolding flatten
 lines-long [] h = omega arith
-lines-long (e ∷ es) h = omega (arith, length-append (stretchText e) (concat (map stretchText es)), line-long e (h .0), lines-long es (h .1))
+lines-long (e ∷ es) h = omega (arith, length-append (stretchText e) (flatten (map stretchText es)), line-long e (h .0), lines-long es (h .1))
 
 pub stop-long : (k r : ℕ) → k < 2 ^ 64 → r < 2 ^ 64 → length (stopText k r) ≤ 58
 stop-long k r p q =

@@ -1,6 +1,6 @@
 -- The whole text: what stands in it before each entry, and at the end. Assumes nothing.
 use mathlib.Core.Path.{_≡_, refl, sym, ap, _∙_}
-use mathlib.Core.List.{List, [], _∷_, _++_, map}
+use mathlib.Core.List.{List, [], _∷_, _++_, map, flatten}
 use Prim.Native.Nat.{ℕ, _+_, _-_, _*_, _^_, _<_, _≤_}
 use native.Mathlib.Omega.{arith}
 use mathlib.Core.Bool.{true}
@@ -12,7 +12,6 @@ use Rattle.decimal.specs.Ascii.{ascii}
 use Rattle.io.specs.Counts.{Counts}
 use Rattle.decimal.specs.Put.{Put}
 use Rattle.decimal.proofs.Puts.{put-nothing, put-then, put-long}
-use Rattle.fold.specs.Run.{concat}
 use Rattle.fold.specs.Output.{numberOf, stopOf}
 use Rattle.fold.specs.declared.Stop.{Stop}
 use Rattle.replay.specs.Replay.{replayOf}
@@ -34,7 +33,7 @@ use Rattle.sign_print.proofs.Room.{lines-long, stop-long}
 pub record Saying (log entries text₀ : List ℕ) (n : ℕ) (text : List ℕ) (end i : ℕ) : Type 0 where
   pub within : i ≤ n
   pub there : Entries log entries n
-  pub said : Put text₀ 0 (concat (map stretchText (take i (stretchesOf log)))) text end
+  pub said : Put text₀ 0 (flatten (map stretchText (take i (stretchesOf log)))) text end
 
 -- ---- 65,504 bytes have room for every entry
 
@@ -58,7 +57,7 @@ module _ (log out : List ℕ) (room : length out ≡ 65_504) where
 -- ---- the entries' lines
 
 pub begins : (log entries text : List ℕ) (n : ℕ) → Entries log entries n → Saying log entries text n text 0 0
-unfolding concat
+unfolding flatten
 begins log entries text n x = record { within = omega arith; there = x; said = put-nothing text 0 }
 
 module _ (log entries text₀ : List ℕ) (n : ℕ) (text : List ℕ) (end i : ℕ) (s : Saying log entries text₀ n text end i) where

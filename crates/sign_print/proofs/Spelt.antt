@@ -1,7 +1,7 @@
 -- The line that is spelt from an entry's bytes is the entry's. Assumes nothing.
 use mathlib.Core.Path.{_≡_, refl, sym, ap, _∙_}
 use mathlib.Core.Bool.{Bool, true, false, cond}
-use mathlib.Core.List.{List, [], _∷_, _++_, map, append-assoc, append-nil}
+use mathlib.Core.List.{List, [], _∷_, _++_, map, append-assoc, append-nil, flatten}
 use Prim.Native.Nat.{ℕ, zero, suc, _+_, _-_, _*_, _/_, _%_, _<_, _≤_}
 use native.Mathlib.Nat.{add-zero}
 use native.Mathlib.Numerals.{add-one}
@@ -15,7 +15,6 @@ use Rattle.decimal.specs.Ascii.{ascii}
 use Rattle.decimal.specs.Digits.{digitsOf}
 use Rattle.decimal.proofs.Back.{digits-small}
 use Rattle.form.specs.Form.{signOf, pluralOf, formText}
-use Rattle.fold.specs.Run.{concat}
 use Rattle.fold.specs.Output.{over}
 use Rattle.shaft.specs.Shaft.{forward, backward, still}
 use Rattle.text.specs.Text.{line}
@@ -169,34 +168,34 @@ module _ (e : Entry) (small : Fine e) where
 none : Entry
 none = record { bank = 0; encoder = 0; first = 0; last = 0; number = 0; steps = pos 0; doubles = 0 }
 
-text-more : (es fs : List Entry) → concat (map stretchText (es ++ fs)) ≡ concat (map stretchText es) ++ concat (map stretchText fs)
-unfolding concat
+text-more : (es fs : List Entry) → flatten (map stretchText (es ++ fs)) ≡ flatten (map stretchText es) ++ flatten (map stretchText fs)
+unfolding flatten
 text-more [] fs = refl
-text-more (e ∷ es) fs = ap (λ (l : List ℕ). stretchText e ++ l) (text-more es fs) ∙ sym (append-assoc (stretchText e) (concat (map stretchText es)) (concat (map stretchText fs)))
+text-more (e ∷ es) fs = ap (λ (l : List ℕ). stretchText e ++ l) (text-more es fs) ∙ sym (append-assoc (stretchText e) (flatten (map stretchText es)) (flatten (map stretchText fs)))
 
 module _ (es : List Entry) (small : Each Fine es) (out s : List ℕ) (is : s ≡ listing es out) (i : ℕ) (h : i < length es) where
   abbrev e : Entry
   e = getD es i none
 
   abbrev front : List ℕ
-  front = concat (map entryBytes (take i es))
+  front = flatten (map entryBytes (take i es))
 
   abbrev behind : List ℕ
-  behind = concat (map entryBytes (drop (suc i) es)) ++ drop (length (concat (map entryBytes es))) out
+  behind = flatten (map entryBytes (drop (suc i) es)) ++ drop (length (flatten (map entryBytes es))) out
 
-  one : concat (map entryBytes es) ≡ front ++ (entryBytes e ++ concat (map entryBytes (drop (suc i) es)))
-  unfolding concat
+  one : flatten (map entryBytes es) ≡ front ++ (entryBytes e ++ flatten (map entryBytes (drop (suc i) es)))
+  unfolding flatten
   one =
-      ap (λ (l : List Entry). concat (map entryBytes l)) (split-at es i none h)
+      ap (λ (l : List Entry). flatten (map entryBytes l)) (split-at es i none h)
       ∙ concat-more entryBytes entry-long (take i es) (e ∷ drop (suc i) es)
 
   stands : s ≡ front ++ (entryBytes e ++ behind)
   unfolding listing over
   stands =
       is
-      ∙ ap (λ (l : List ℕ). l ++ drop (length (concat (map entryBytes es))) out) one
-      ∙ append-assoc front (entryBytes e ++ concat (map entryBytes (drop (suc i) es))) (drop (length (concat (map entryBytes es))) out)
-      ∙ ap (λ (l : List ℕ). front ++ l) (append-assoc (entryBytes e) (concat (map entryBytes (drop (suc i) es))) (drop (length (concat (map entryBytes es))) out))
+      ∙ ap (λ (l : List ℕ). l ++ drop (length (flatten (map entryBytes es))) out) one
+      ∙ append-assoc front (entryBytes e ++ flatten (map entryBytes (drop (suc i) es))) (drop (length (flatten (map entryBytes es))) out)
+      ∙ ap (λ (l : List ℕ). front ++ l) (append-assoc (entryBytes e) (flatten (map entryBytes (drop (suc i) es))) (drop (length (flatten (map entryBytes es))) out))
 
   place : 32 * i ≡ length front
   place = omega (arith, length-concat entryBytes entry-long (take i es), length-take-le i es (omega arith))
@@ -207,9 +206,9 @@ module _ (es : List Entry) (small : Each Fine es) (out s : List ℕ) (is : s ≡
     doubles = rw stands (rw (last e (each-at Fine none es i small h) front behind (32 * i) place) (omega (arith, each-at Fine none es i small h .doubles)));
   }
 
-  pub one-more : concat (map stretchText (take (i + 1) es)) ≡ concat (map stretchText (take i es)) ++ speltAt s (32 * i)
-  unfolding concat
+  pub one-more : flatten (map stretchText (take (i + 1) es)) ≡ flatten (map stretchText (take i es)) ++ speltAt s (32 * i)
+  unfolding flatten
   one-more =
       rw (add-one i, take-suc es i none h)
       (text-more (take i es) (e ∷ [])
-      ∙ ap (λ (l : List ℕ). concat (map stretchText (take i es)) ++ l) (append-nil (stretchText e) ∙ sym (spelt-there e (each-at Fine none es i small h) front behind (32 * i) place) ∙ ap (λ (l : List ℕ). speltAt l (32 * i)) (sym stands)))
+      ∙ ap (λ (l : List ℕ). flatten (map stretchText (take i es)) ++ l) (append-nil (stretchText e) ∙ sym (spelt-there e (each-at Fine none es i small h) front behind (32 * i) place) ∙ ap (λ (l : List ℕ). speltAt l (32 * i)) (sym stands)))

@@ -3,13 +3,12 @@
 --   bank 1 encoder 0: records 5 to 9, 4 pins, -1 step, 3 double changes, travel -7 to +5: open, 6 steps short of a direction
 -- Assumes nothing.
 use mathlib.Core.Bool.{cond}
-use mathlib.Core.List.{List, [], _∷_, _++_, map}
+use mathlib.Core.List.{List, [], _∷_, _++_, map, flatten}
 use Prim.Native.Nat.{ℕ, zero, suc, _+_, _-_, _*_}
 use lib.Dec.{eqb}
 use lib.IntN.{ℤ, pos, negsuc, natAbs, _+ℤ_, _-ℤ_}
 use Rattle.decimal.specs.Ascii.{ascii}
 use Rattle.decimal.specs.Digits.{digitsOf}
-use Rattle.fold.specs.Run.{concat}
 use Rattle.fold.specs.Output.{numberOf}
 use Rattle.replay.specs.Replay.{replayOf}
 use Rattle.shaft.specs.Shaft.{forward, backward, still}
@@ -55,7 +54,7 @@ stretchText e = let s = e .steps in let d = e .doubles in
 
 -- of a log: K and R as its replay has them, with room for each reading
 unfoldable pub stretchesText : List ℕ → List ℕ
-stretchesText log = concat (map stretchText (stretchesOf log))
+stretchesText log = flatten (map stretchText (stretchesOf log))
 
 unfoldable pub endText : List ℕ → List ℕ
 endText log = let x = replayOf log 16_384 in stopText (x .applied) (numberOf (x .course))

@@ -2,13 +2,12 @@
 use mathlib.Core.Logic.{inl, inr}
 use mathlib.Core.Path.{_≡_, refl, sym, ap, _∙_, subst}
 use mathlib.Core.Bool.{Bool, true, false, cond}
-use mathlib.Core.List.{List, [], _∷_, _++_}
+use mathlib.Core.List.{List, [], _∷_, _++_, flatten}
 use Prim.Native.Nat.{ℕ, zero, suc, _+_, _<_}
 use native.Mathlib.Omega.{arith}
 use lib.Dec.{leb}
 use lib.ListN.{length, drop}
 use lib.Seq.{take-at, getD-append-add}
-use Rattle.fold.specs.Run.{concat}
 use Rattle.fold.specs.Output.{over}
 use Rattle.wire.specs.Bytes.{byte}
 use Rattle.edition.specs.Edition.{known}
@@ -52,7 +51,7 @@ front (x ∷ a) b g (suc i) = front a b (λ j. g (suc j)) i
 
 called : (cs : List Lent) (state after : List ℕ) (l : Live) → ((i : ℕ) → byte (bytesIn cs) i < 256) → Stands state l → Called state cs after
     → Stands after (streamed l cs .live)
-unfolding Called streamed concat
+unfolding Called streamed flatten
 called [] state after l g h c = rw c h
 called (d ∷ cs) state after l g h (mid, inl a, c) =
     let next = chunkOf l (d .bytes) (d .room) .live in
