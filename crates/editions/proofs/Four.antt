@@ -20,7 +20,8 @@ use Rattle.bank.specs.Bank.{withI2c, turnOf}
 use Rattle.banks.specs.declared.State.{State}
 use Rattle.banks.specs.State.{bankAt, withBank}
 use Rattle.walk.specs.Turn as walk
-use Rattle.walk.proofs.Replaying.{by-turn, lift-refused}
+use Rattle.fold.proofs.Turns.{lift-refused}
+use Rattle.walk.proofs.Replaying.{by-turn}
 
 abbrev Ten : Turn Bank ℕ → Type 0
 Ten t = t ≡ refused 10 → ⊥

@@ -29,7 +29,8 @@ use Rattle.banks.specs.State.{fresh, bankAt, withBank, bothBanks}
 use Rattle.banks.proofs.Whole.{Both, holds-first}
 use Rattle.replay.specs.Replay.{played, playOf, replayFrom, replayOf}
 use Rattle.walk.specs.Turn.{decodedTurn, turnOf}
-use Rattle.walk.proofs.Replaying.{by-turn, ticking, ticked, banking, both-kept, lift-applies}
+use Rattle.fold.proofs.Turns.{lift-applies}
+use Rattle.walk.proofs.Replaying.{by-turn, ticking, ticked, banking, both-kept}
 use Rattle.editions.specs.Facts.{Editions}
 use Rattle.editions.proofs.Four.{record-no-ten}
 use Rattle.editions.proofs.Three.{as-two, Moded, moded-first, moded-next}

@@ -34,7 +34,8 @@ use Rattle.banks.specs.declared.State.{State}
 use Rattle.banks.specs.State.{fresh, bankAt, withBank}
 use Rattle.banks.proofs.Whole.{Both, holds-first, holds-one, holds-both}
 use Rattle.walk.specs.Turn.{turnOf}
-use Rattle.walk.proofs.Replaying.{by-turn, lift-refused}
+use Rattle.fold.proofs.Turns.{lift-refused}
+use Rattle.walk.proofs.Replaying.{by-turn}
 use Rattle.image_words.specs.Words.{FitsI2c, FitsEncoder, FitsPwm}
 use Rattle.image.specs.Image.{FitsBank}
 use Rattle.image.specs.How.{isRefusal, FitsState}

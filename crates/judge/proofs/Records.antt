@@ -26,7 +26,8 @@ use Rattle.bank.proofs.Turns.{reading, exactly}
 use Rattle.banks.specs.declared.State.{State}
 use Rattle.banks.specs.State.{bankAt}
 use Rattle.walk.specs.Turn.{turnOf}
-use Rattle.walk.proofs.Replaying.{by-turn, lift-answers, lift-applies, lift-reads}
+use Rattle.fold.proofs.Turns.{lift-answers, lift-applies, lift-reads}
+use Rattle.walk.proofs.Replaying.{by-turn}
 use Rattle.judge.specs.Judge.{ofCntr}
 
 pub reads-exactly : (o : Edition) (s : State) (bytes : List ℕ) → applies (turnOf o s bytes) ≡ true → answers (turnOf o s bytes) ≡ asks bytes

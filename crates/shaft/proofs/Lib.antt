@@ -1,6 +1,6 @@
 mod Group
 mod Phase
 pub mod Balance
-mod Size
+pub mod Size
 pub mod Counted
 pub mod Motions

@@ -8,11 +8,11 @@ use lib.IntN.{ℤ, pos, negsuc, natAbs, _+ℤ_, +ℤ-idr, +ℤ-invr, +ℤ-assoc,
 use Rattle.shaft.specs.Shaft.{forward, backward, direction}
 use Rattle.shaft.proofs.Group.{lift}
 
-abbrev up : ℤ → ℕ
+abbrev pub up : ℤ → ℕ
 up (pos n) = n
 up (negsuc n) = 0
 
-abbrev down : ℤ → ℕ
+abbrev pub down : ℤ → ℕ
 down (pos n) = 0
 down (negsuc n) = suc n
 

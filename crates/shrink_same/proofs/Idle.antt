@@ -30,7 +30,8 @@ use Rattle.banks.specs.State.{fresh, bankAt, withBank, bothBanks}
 use Rattle.banks.proofs.Whole.{Both}
 use Rattle.banks.proofs.Sweeps.{bank-itself}
 use Rattle.walk.specs.Turn.{turnOf}
-use Rattle.walk.proofs.Replaying.{by-turn, ticking, banking, lift-applies}
+use Rattle.fold.proofs.Turns.{lift-applies}
+use Rattle.walk.proofs.Replaying.{by-turn, ticking, banking}
 use Rattle.travel.specs.Stretch.{names}
 use Rattle.travel.proofs.Events.{Event, pins, config, route, nothing, eventAt}
 use Rattle.travel.proofs.Counting.{Channel, onEvent}

@@ -49,24 +49,28 @@ front [] b g i = omega arith
 front (x ∷ a) b g zero = g 0
 front (x ∷ a) b g (suc i) = front a b (λ j. g (suc j)) i
 
-called : (cs : List Lent) (state after : List ℕ) (l : Live) → ((i : ℕ) → byte (bytesIn cs) i < 256) → Stands state l → Called state cs after
-    → Stands after (streamed l cs .live)
+called : (cs : List Lent) (state after vs : List ℕ) (l : Live) → ((i : ℕ) → byte (bytesIn cs) i < 256) → Stands state l → Called state cs after vs
+    → Stands after (streamed l cs .live) × (vs ≡ streamed l cs .readings)
 unfolding Called streamed flatten
-called [] state after l g h c = rw c h
-called (d ∷ cs) state after l g h (mid, inl a, c) =
+called [] state after vs l g h c = (rw (c .0) h, c .1)
+called (d ∷ cs) state after vs l g h (mid, ws, inl a, c) =
     let next = chunkOf l (d .bytes) (d .room) .live in
-    let is : mid ≡ over (imageOf next) state =
-    a .2 ∙ ap (λ (m : Live). over (imageOf (chunkOf m (d .bytes) (d .room) .live)) state) (one state l (a .0) h (a .1)) in
-    called cs mid after next (λ i. rw (getD-append-add (d .bytes) (bytesIn cs) i 0) at (g (length (d .bytes) + i)))
-    (rw is (keeps state (d .bytes) (d .room) l (front (d .bytes) (bytesIn cs) g) h)) c
-called (d ∷ cs) state after l g h (mid, inr b, c) = absurd (b .0 l h)
+    let same = one state l (a .0) h (a .1) in
+    let is : mid ≡ over (imageOf next) state = a .2 .0 ∙ ap (λ (m : Live). over (imageOf (chunkOf m (d .bytes) (d .room) .live)) state) same in
+    let told : vs ≡ chunkOf l (d .bytes) (d .room) .readings ++ ws = a .2 .1 ∙ ap (λ (m : Live). chunkOf m (d .bytes) (d .room) .readings ++ ws) same in
+    let on =
+    called cs mid after ws next (λ i. rw (getD-append-add (d .bytes) (bytesIn cs) i 0) at (g (length (d .bytes) + i)))
+    (rw is (keeps state (d .bytes) (d .room) l (front (d .bytes) (bytesIn cs) g) h)) c in
+    (on .0, told ∙ ap (λ (us : List ℕ). chunkOf l (d .bytes) (d .room) .readings ++ us) (on .1))
+called (d ∷ cs) state after vs l g h (mid, ws, inr b, c) = absurd (b .0 l h)
 
 pub streams : Streams
 streams = record {
   starts = starts;
   keeps = keeps;
-  any-calls = λ edition state after cs z g roomy c.
-      subst (λ (t : Taken). Stands after (t .live)) (cuts .any-cut edition cs roomy) (called cs (startedIn edition state) after (freshOf edition) g (starts edition state z) c);
+  any-calls = λ edition state after vs cs z g roomy c.
+      subst (λ (t : Taken). Stands after (t .live) × (vs ≡ t .readings)) (cuts .any-cut edition cs roomy)
+      (called cs (startedIn edition state) after vs (freshOf edition) g (starts edition state z) c);
 }
 
 pub on-settled : OnSettled

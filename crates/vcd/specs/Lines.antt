@@ -17,14 +17,14 @@ codeOf w = 65 + w % 20 + 32 * (w / 20)
 
 -- "$var wire 1 G bank0_encoder3_A $end"
 unfoldable pub varOf : ℕ → List ℕ
-varOf w = ascii "$var wire 1 " ++ (codeOf w ∷ ascii " bank") ++ ((48 + w / 20) ∷ ascii "_encoder") ++ ((48 + w / 2 % 10) ∷ 95 ∷ (65 + w % 2) ∷ ascii " $end")
+varOf w = ascii "$var wire 1 " ++ codeOf w ∷ ascii " bank" ++ (48 + w / 20) ∷ ascii "_encoder" ++ (48 + w / 2 % 10) ∷ ascii "_" ++ (65 + w % 2) ∷ ascii " $end"
 
 -- "xG", "#100", "0G" and "1G"
 unfoldable pub printOf : Line → List ℕ
 printOf (Fixed k) = getD fixedLines k []
 printOf (Var w) = varOf w
-printOf (Unknown w) = 120 ∷ codeOf w ∷ []
-printOf (Time t) = 35 ∷ digitsOf t
+printOf (Unknown w) = ascii "x" ++ codeOf w ∷ []
+printOf (Time t) = ascii "#" ++ digitsOf t
 printOf (Change w b) = (48 + b) ∷ codeOf w ∷ []
 printOf Other = []
 
