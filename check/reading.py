@@ -6,7 +6,8 @@ usage: reading.py            (from the project's root)
 Starts from every contract of a `pub extern "C" fn` and from the statement of every theorem, that is of each `pub` law in a
 `proofs/Proved.antt` and of each other one whose type is a statement of `specs/` by name, and follows each name through the `use` lines of `specs/` to the definition it stands for, and on from there.
 Prints each file with the lines that count: not blank, not a comment, not a `use`. Ends with status 1 where a definition of a
-`specs/How.antt` is reached, or where a name of the project is not found.
+`specs/How.antt` is reached, or where a name of the project is not found. Then the same of what the program prints, by the contracts of the
+crates `.._print`, which C does not see; there what says how a stream lies in memory is left out.
 """
 import pathlib
 import re
@@ -14,6 +15,8 @@ import sys
 
 # What is beyond the papers: the crate and its call.
 OURS = "sign"
+# The kit's own libraries.
+KITS = {"std", "check", "io", "libc", "os", "bytes"}
 WORD = re.compile(r"[^\s(){};,λ∷\[\]]+")
 
 
@@ -86,6 +89,8 @@ class Project:
     def __init__(self, root):
         self.root, self.files, self.sources = root, {}, {}
         self.reached, self.missing = {}, []
+        # whether how the code gets there, and what proofs define, is left out
+        self.plain = False
 
     def file(self, crate, part):
         key = (crate, part)
@@ -100,6 +105,8 @@ class Project:
         if not found:
             return
         crate, part = found[1], found[2]
+        if crate in KITS:
+            return
         declared = re.match(r"specs\.declared\.([A-Za-z0-9]+)", part)
         if declared:
             self.declare(crate, declared[1])
@@ -111,6 +118,8 @@ class Project:
         self.reach(file, name, whence)
 
     def reach(self, file, name, whence):
+        if self.plain and (file.path.name == "How.antt" or "proofs" in file.path.parts):
+            return
         if name not in file.items:
             inner = file.names.get(name)
             if inner and inner[0] is None:
@@ -164,20 +173,27 @@ class Project:
 
     # ---- what the list starts from
 
-    def contracts(self, ours):
+    def contracts(self, crates, kind, wanted):
         found = 0
-        for path in sorted((self.root / "crates").glob("*/src/**/*.rt")):
+        for path in sorted((self.root / "crates").glob(f"{crates}/src/**/*.rt")):
             text = path.read_text()
             crate = path.relative_to(self.root / "crates").parts[0]
             ghost = File.__new__(File)
             ghost.path, ghost.crate, ghost.items, ghost.names, ghost.modules = path, crate, {}, {}, {}
             for line in re.findall(r"^ghost (use .*);$", text, re.M):
                 ghost.use(line)
-            for call in re.finditer(r'^pub extern "C" fn (\w+).*?^\{', text, re.M | re.S):
-                if (call[1] == "rvz_" + OURS) is ours:
+            for call in re.finditer(rf"^{kind} (\w+).*?^\{{", text, re.M | re.S):
+                if wanted(call[1]):
                     found += 1
-                    self.words(ghost, call[0], f"contract of {call[1]}")
+                    self.words(ghost, call[0], f"contract of {crate}::{call[1]}")
         return found
+
+    def exported(self, ours):
+        return self.contracts("*", 'pub extern "C" fn', lambda name: (name == "rvz_" + OURS) is ours)
+
+    def printing(self):
+        self.plain = True
+        return self.contracts("*_print", "pub fn", lambda name: True)
 
     def theorems(self, ours):
         found = 0
@@ -208,21 +224,24 @@ def counted(project):
 
 def main():
     project = Project(pathlib.Path("."))
-    calls, theorems = project.contracts(False), project.theorems(False)
+    calls, theorems = project.exported(False), project.theorems(False)
     papers = sum(counted(project).values())
-    more, beside = project.contracts(True), project.theorems(True)
+    more, beside = project.exported(True), project.theorems(True)
+    signs = sum(counted(project).values())
+    printing = project.printing()
     lines = counted(project)
     for path in sorted(lines):
         names = sorted(name for (where, name) in project.reached if where == path)
         print(f"{lines[path]:4} {path}: {' '.join(names)}")
     print(f"{papers:4} lines, for {calls} exported calls and {theorems} theorems of papers 01 and 02")
-    print(f"{sum(lines.values()) - papers:4} more, for the call and {beside} theorems of the {OURS}, which no paper asks for")
+    print(f"{signs - papers:4} more, for the call and {beside} theorems of the {OURS}, which no paper asks for")
+    print(f"{sum(lines.values()) - signs:4} more, for what the program prints, by {printing} functions")
     how = [(path, name, whence) for (path, name), (_, _, whence) in project.reached.items() if path.endswith("How.antt")]
     for path, name, whence in how:
         print(f"rests on how the code gets there: {path}: {name}, from {whence}")
     for name in sorted(set(project.missing)):
         print(f"not found: {name}")
-    return 0 if calls and theorems and more and beside and not how and not project.missing else 1
+    return 0 if calls and theorems and more and beside and printing and not how and not project.missing else 1
 
 
 if __name__ == "__main__":

@@ -1,7 +1,7 @@
 #!/usr/bin/env bash
-# The archive is reproducible: built in another folder, it has the same bytes. tests/archive.sum has the sum of the one that was built
-# elsewhere, with the kit and the machine that built it. Where kit, machine or code are others, it is built once more, from nothing, in a
-# second folder, which takes minutes.
+# The archive is reproducible: built in another folder, or on another processor, it has the same bytes. tests/archive.sum has the sum of one
+# that was built elsewhere, with the kit that built it. Where kit or code are others, it is built once more, from nothing, in a second
+# folder, which takes minutes.
 #   tests/archive.sh          the test
 #   tests/archive.sh record   writes tests/archive.sum from a build in a second folder
 set -u
@@ -16,7 +16,7 @@ again() {
 }
 
 # sum_of ARCHIVE: its sum, and what it was built by.
-sum_of() { echo "$(sha256sum <"$1" | cut -d' ' -f1) $(uname -m) $(rt version)"; }
+sum_of() { echo "$(sha256sum <"$1" | cut -d' ' -f1) $(rt version)"; }
 
 if [ "${1-}" = record ]; then
     again && sum_of "$there" >tests/archive.sum
