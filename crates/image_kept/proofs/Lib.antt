@@ -1,3 +1,4 @@
 mod Blocks
 pub mod Keeping
 pub mod Readings
+pub mod Replayed

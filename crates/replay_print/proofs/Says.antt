@@ -1,51 +1,22 @@
 -- The readings in the replay's output, and the text of them. Assumes nothing.
 use mathlib.Core.Path.{_≡_, sym, ap}
-use mathlib.Core.Bool.{Bool, true, false, cond}
-use mathlib.Core.List.{List, []}
+use mathlib.Core.List.{List}
 use Prim.Native.Nat.{ℕ, _*_, _^_, _≤_, _<_}
 use native.Mathlib.Omega.{arith}
-use lib.Dec.{leb}
-use lib.ListN.{length, getD, take, drop}
+use lib.ListN.{length, take, drop}
 use lib.Seq.{take-at}
 use Rattle.decimal.specs.Put.{Put}
-use Rattle.wire.specs.Bytes.{leBytes, readsIn}
-use Rattle.wire.specs.Trailer.{trailerOf}
-use Rattle.wire.specs.declared.Trailer.{Trailer}
-use Rattle.wire.specs.declared.Trailer.the-variants.{Found, Refused as NoTrailer}
+use Rattle.wire.specs.Bytes.{leBytes}
 use Rattle.fold.specs.declared.Stop.{Stop}
-use Rattle.fold.specs.Run.{halted}
 use Rattle.fold.specs.Output.{numberOf, bytesOf, over, stopOf, outputOf}
-use Rattle.edition.specs.declared.Edition.{Edition}
-use Rattle.banks.specs.State.{fresh}
-use Rattle.replay.specs.Replay.{played, playOf, replayFrom, replayOf}
-use Rattle.image_kept.proofs.Keeping.{state-first}
-use Rattle.image_kept.proofs.Readings.{readings-small}
+use Rattle.replay.specs.Replay.{replayOf}
+use Rattle.image_kept.proofs.Replayed.{replay-small}
 use Rattle.judge.proofs.Numbers.{in-bytes}
 use Rattle.judge.proofs.Whole.{few}
 use Rattle.text.specs.Text.{textOf, readingsIn}
 use Rattle.text.proofs.Room.{text-below}
 use Rattle.printed.proofs.Readings.{long-bytes, readings-back}
 use Rattle.replay_print.specs.Said.{saidOf}
-
--- ---- every reading of a replay is below 2^64
-
-play-small : (e : Edition) (rs : List (List ℕ)) (room i : ℕ) → getD (playOf e rs room .readings) i 0 < 2 ^ 64
-unfolding playOf
-play-small e rs room i = by (leb (8 * readsIn rs) room)
-  where
-    by : (t : Bool) → getD (cond t (played e rs) (halted fresh 0 [] 6) .readings) i 0 < 2 ^ 64
-    by true = readings-small e fresh rs state-first i
-    by false = omega arith
-
-pub replay-small : (log : List ℕ) (room i : ℕ) → getD (replayOf log room .readings) i 0 < 2 ^ 64
-unfolding replayOf replayFrom
-replay-small log room i = by (trailerOf log)
-  where
-    by : (t : Trailer) → getD (replayFrom t log room .readings) i 0 < 2 ^ 64
-    by (NoTrailer k) = omega arith
-    by (Found a n e) = play-small _ _ room i
-
--- ---- what is printed of it
 
 module _ (log : List ℕ) (room : ℕ) (stop : Stop) (out out′ : List ℕ) (s : stop ≡ stopOf (replayOf log room))
     (o : out′ ≡ outputOf (leBytes 8) (replayOf log room) out) where
