@@ -6,6 +6,7 @@ use mathlib.Core.List.{List, [], _∷_, _++_, append-assoc, foldl, map}
 use Prim.Native.Nat.{ℕ, suc, _+_, _*_, _^_, _≤_, _<_}
 use native.Mathlib.Omega.{arith}
 use lib.ListN.{length, length-append, drop}
+use lib.Seq.{getD-append-seam}
 use lib.IntN.{ℤ, negℤ, _+ℤ_, _-ℤ_, +ℤ-assoc, +ℤ-comm, +ℤ-negℤ-cancel, -ℤ-+ℤ-cancel}
 use lib.Signed.{mag}
 use Rattle.laws.specs.Each.{mapFrom}
@@ -30,7 +31,7 @@ use Rattle.wire.specs.declared.Trailer.{Trailer}
 use Rattle.wire.specs.declared.Trailer.the-variants.{Found, Refused as NoTrailer}
 use Rattle.wire.specs.declared.Record.the-variants.{ReadEncoder, Pins}
 use Rattle.wire.specs.declared.Decoded.the-variants.{Names}
-use Rattle.wire.proofs.Numbers.{le-behind, le-bytes}
+use Rattle.replay.proofs.Bytes.{reading-there}
 use Rattle.wire.proofs.Laws.{few-records}
 use Rattle.wire.proofs.Formed.{formed, bank-formed}
 use Rattle.bank.specs.Bank.{encoderAt}
@@ -117,18 +118,6 @@ demand-of-logs k i log r before rs later cut st =
 
 -- ---- the output's bytes
 
--- those of the reading behind the readings vs
-bytes-at : (vs : List ℕ) (v : ℕ) (ws rest : List ℕ) → v < 256 ^ 8 → leOf 8 (bytesOf (leBytes 8) (vs ++ v ∷ ws) ++ rest) (8 * length vs) ≡ v
-unfolding bytesOf
-bytes-at [] v ws rest h = rw (append-assoc (leBytes 8 v) (bytesOf (leBytes 8) ws) rest) (le-bytes 8 v (bytesOf (leBytes 8) ws ++ rest) h)
-bytes-at (w ∷ vs) v ws rest h =
-    let more : List ℕ = bytesOf (leBytes 8) (vs ++ v ∷ ws) in
-    let far : 8 * suc (length vs) ≡ 8 + 8 * length vs = omega arith in
-    ap (λ (l : List ℕ). leOf 8 l (8 * suc (length vs))) (append-assoc (leBytes 8 w) more rest)
-    ∙ ap (leOf 8 (leBytes 8 w ++ more ++ rest)) far
-    ∙ le-behind 8 (leBytes 8 w) (more ++ rest) (8 * length vs)
-    ∙ bytes-at vs v ws rest h
-
 module _ (o : Edition) (k i : ℕ) (q : List ℕ) (names : decodeOf o q ≡ Names (ReadEncoder i 2)) (there : bankOf q ≡ k) where
   asks-cntr : (b : State) → turnOf o b q ≡ reads (pattern (encoderAt i (bankAt k b) .count))
   unfolding turnOf bank.turnOf
@@ -149,8 +138,12 @@ module _ (o : Edition) (k i : ℕ) (q : List ℕ) (names : decodeOf o q ≡ Name
   unfolding outputOf over
   reads-bytes rs later out goes =
       let next = reads-next rs later goes in
+      let before = played o rs .readings in
+      let v = pattern (encoderAfter o k i rs .count) in
+      let is = getD-append-seam before v (next .0) 0 in
       ap (λ (l : List ℕ). leOf 8 (bytesOf (leBytes 8) l ++ drop (length (bytesOf (leBytes 8) l)) out) (8 * length (played o rs .readings))) (next .1)
-      ∙ bytes-at (played o rs .readings) (pattern (encoderAfter o k i rs .count)) (next .0) _ (omega (arith, pattern-lt (encoderAfter o k i rs .count)))
+      ∙ reading-there (before ++ v ∷ next .0) _ (length before) (omega (arith, length-append before (v ∷ next .0))) (omega (arith, is, pattern-lt (encoderAfter o k i rs .count)))
+      ∙ is
 
 -- a log with records has a trailer, and with room it replays as their run
 plays : (log : List ℕ) (room : ℕ) (before : List (List ℕ)) (r : List ℕ) (rs : List (List ℕ)) → recordsOf log ≡ before ++ r ∷ rs
