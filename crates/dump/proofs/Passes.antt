@@ -1,15 +1,14 @@
 -- The two passes over the records: which encoders have a wire, and their changes. Assumes nothing.
 use mathlib.Core.Path.{_≡_, refl, sym, ap, _∙_, subst}
-use mathlib.Core.Bool.{Bool, true, false, _&&_, _||_, not, cond}
+use mathlib.Core.Bool.{Bool, false, _&&_, _||_, not}
 use mathlib.Core.List.{List, [], _∷_, _++_, foldl, map, append-assoc, append-nil}
-use Prim.Native.Nat.{ℕ, zero, suc, _+_, _-_, _*_, _^_, _≤_, _<_}
+use Prim.Native.Nat.{ℕ, _+_, _-_, _*_, _^_, _≤_, _<_}
 use native.Mathlib.Omega.{arith}
 use native.Mathlib.Nat.{mul-le-mul-right}
 use lib.Dec.{eqb}
 use mir.Syntax.{w8, w64}
 use mir.Val.{Fits}
 use lib.ListN.{length, take, drop, getD, set, replicate, length-set}
-use Rattle.fold.specs.Device.{records}
 use Rattle.fold.proofs.Places.{between, placed, places-next, places-end, places-all, records-placed}
 use Rattle.decimal.specs.Put.{Put}
 use Rattle.decimal.proofs.Puts.{put-nothing, put-then, put-long}

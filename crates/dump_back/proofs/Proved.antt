@@ -4,9 +4,7 @@ use mathlib.Core.List.{List, _++_}
 use Prim.Native.Nat.{ℕ, _≤_}
 use lib.ListN.{length, take, drop}
 use lib.Seq.{take-at, drop-at}
-use borrow.Author.Tests.{le-leb}
 use Rattle.fold.specs.Run.{going}
-use Rattle.fold.specs.Output.{over}
 use Rattle.vcd.specs.Entries.{entriesIn}
 use Rattle.vcd.specs.Reader.{Reads}
 use Rattle.vcd.specs.Facts.{Shown}

@@ -1,22 +1,22 @@
 -- Entries stored one after the other. Assumes nothing.
 use mathlib.Core.Path.{_≡_, refl, sym, ap, _∙_, subst}
-use mathlib.Core.Bool.{Bool, true, false, cond}
+use mathlib.Core.Bool.{cond}
 use mathlib.Core.List.{List, [], _∷_, _++_, append-assoc, append-nil, flatten}
-use Prim.Native.Nat.{ℕ, zero, suc, _+_, _*_, _/_, _%_, _≤_, _<_}
+use Prim.Native.Nat.{ℕ, suc, _+_, _*_, _/_, _%_, _≤_, _<_}
 use native.Mathlib.Omega.{arith}
 use native.Mathlib.Nat.{add-zero, add-suc, suc-add, zero-add}
 use native.Mathlib.Numerals.{add-one}
 use lib.Dec.{eqb}
 use lib.ListN.{length, take, getD, set, replicate, length-append}
 use lib.Seq.{sets, length-sets, take-suc, take-all, length-take-le}
-use borrow.Author.Tests.{eq-eqb, ne-eqb}
+use borrow.Author.Tests.{ne-eqb}
 use Rattle.decimal.specs.Put.{Put}
 use Rattle.wire.specs.Bytes.{leBytes}
 use Rattle.vcd.specs.declared.Line.{Line}
 use Rattle.vcd.specs.declared.Line.the-variants.{Fixed, Var, Unknown, Time, Change, Other}
 use Rattle.vcd.specs.declared.Reader.{Reader}
 use Rattle.vcd.specs.Entries.{Entry, entriesAt, entryBytes}
-use Rattle.vcd.specs.How.{turnOf, standing, toldBefore, toldFrom}
+use Rattle.vcd.specs.How.{turnOf, standing, toldBefore}
 use Rattle.dump_read.specs.How.{bytesOf, Stored}
 
 sets-append : (s t out : List ℕ) (at : ℕ) → sets (sets out at s) (at + length s) t ≡ sets out at (s ++ t)

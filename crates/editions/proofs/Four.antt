@@ -6,7 +6,7 @@ use mathlib.Core.List.{List}
 use Prim.Native.Nat.{ℕ}
 use native.Mathlib.Omega.{arith}
 use lib.Dec.{eqb}
-use Rattle.fold.specs.Turn.{Turn, goes, reads, refused, lift, applies}
+use Rattle.fold.specs.Turn.{Turn, goes, refused, lift, applies}
 use Rattle.edition.specs.Edition.{editionOf}
 use Rattle.wire.specs.Record.{bankOf}
 use Rattle.wire.specs.declared.Record.{Record}

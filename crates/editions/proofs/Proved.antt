@@ -3,11 +3,11 @@
 use mathlib.Core.Path.{_≡_, refl, sym, ap, _∙_}
 use mathlib.Core.Bool.{Bool, true, false, cond, _&&_, false≢true}
 use mathlib.Core.List.{List, []}
-use Prim.Native.Nat.{ℕ, _*_, _<_}
-use Rattle.fold.specs.Turn.{Turn, goes, lift, applies, leaves}
+use Prim.Native.Nat.{ℕ, _*_}
+use Rattle.fold.specs.Turn.{Turn, goes, lift, applies}
 use Rattle.fold.specs.Run.{Run, going, halted, step, resumed, runOf}
 use Rattle.fold.proofs.Laws as fold
-use lib.Dec.{eqb, leb}
+use lib.Dec.{leb}
 use borrow.Author.Tests.{eq-eqb, ne-eqb}
 use Rattle.edition.specs.Edition.{editionOf}
 use Rattle.edition.specs.declared.Edition.{Edition}
@@ -16,12 +16,10 @@ use Rattle.wire.specs.declared.Record.{Record}
 use Rattle.wire.specs.Record.{bankOf, decodeOf, namedOf, writeOf, pinsOf}
 use Rattle.wire.specs.Trailer.{trailerOf, recordsOf}
 use Rattle.wire.specs.declared.Trailer.the-variants.{Found}
-use Rattle.wire.specs.declared.Record.the-variants.{Ticks}
-use Rattle.wire.specs.declared.Decoded.the-variants.{Names, Refused as NoRecord}
+use Rattle.wire.specs.declared.Decoded.the-variants.{Names}
 use Rattle.laws.specs.Each.{mapFrom}
 use Rattle.select.specs.Select.{fieldOf, some, encoderRouted}
 use Rattle.encoder.specs.Encoder.{en, rst, mode, statOf, countsInQuadrature}
-use Rattle.bank.specs.declared.Bank.{Bank}
 use Rattle.bank.specs.Bank.{encoderAt}
 use Rattle.bank.specs.Bank as bank
 use Rattle.banks.specs.declared.State.{State}

@@ -1,6 +1,6 @@
 -- What one record of edition 3 does to a bank.
 -- Assumes nothing.
-use mathlib.Core.Path.{_≡_, refl, sym, ap, subst, _∙_}
+use mathlib.Core.Path.{_≡_, refl, ap, _∙_}
 use mathlib.Core.Bool.{Bool, true, false, cond, _&&_, false≢true}
 use Prim.Native.Nat.{ℕ}
 use Rattle.laws.proofs.Each.{each-keeps, set-keeps, fresh-keeps}
@@ -16,7 +16,7 @@ use Rattle.pwm.specs.Pwm as pwm
 use Rattle.i2c.specs.declared.I2c.{I2c}
 use Rattle.i2c.specs.I2c as i2c
 use Rattle.bank.specs.declared.Bank.{Bank}
-use Rattle.bank.specs.Bank.{fresh, encoderAt, withEncoder, pwmAt, withPwm, withI2c, reroute, onSelect, onTicks, turnOf}
+use Rattle.bank.specs.Bank.{fresh, encoderAt, withEncoder, pwmAt, withPwm, withI2c, reroute, onSelect, turnOf}
 
 -- ---- as edition 2
 

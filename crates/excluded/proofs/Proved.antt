@@ -12,7 +12,7 @@ use Rattle.fold.specs.Device.{records}
 use Rattle.encoder.specs.Encoder.{statOf}
 use Rattle.select.specs.Select.{fieldOf, some}
 use Rattle.wire.specs.Bytes.{byte, leOf}
-use Rattle.wire.specs.Trailer.{trailerOf, recordsOf, editionIn}
+use Rattle.wire.specs.Trailer.{trailerOf}
 use Rattle.wire.specs.Record.{decodeOf, namedOf, writeOf, readOf, pinsOf, ticksOf, answerOf}
 use Rattle.bank.specs.Bank as bank
 use Rattle.replay.specs.Replay.{played, playOf, replayFrom, replayOf}

@@ -1,18 +1,17 @@
 -- The carried bytes in their sixteen: those past the ones that are held are 0.
 -- Assumes nothing.
 use mathlib.Core.Path.{_≡_, refl, sym, ap, _∙_}
-use mathlib.Core.Bool.{Bool, true, false, _&&_, _||_}
-use mathlib.Core.List.{List, [], _∷_, _++_}
+use mathlib.Core.Bool.{Bool, true, false, _||_}
+use mathlib.Core.List.{List, _++_}
 use Prim.Native.Nat.{ℕ, zero, suc, _+_, _*_, _-_, _<_, _≤_}
 use native.Mathlib.Omega.{arith}
-use native.Mathlib.Nat.{not-suc-le-zero, le-of-suc-le-suc}
-use lib.ListN.{length, take, drop, getD, replicate, length-drop, length-append, length-replicate, getD-replicate, take-append-drop, List·getD-append}
+use lib.ListN.{length, take, drop, getD, replicate, length-drop, length-append, length-replicate, getD-replicate, take-append-drop}
 use lib.Seq.{ext-getD, getD-drop, length-take-le, take-at, getD-append-add}
 use lib.Dec.{ltb, eqb}
 use borrow.Author.Tests.{lt-ltb, le-ltb, ltb-true, ltb-false, eqb-true}
 use Rattle.wire.specs.Bytes.{byte}
 use Rattle.codec.specs.How.{loadMany, okMany}
-use Rattle.codec.proofs.Each.{byte-many, many-each, each-many, length-many}
+use Rattle.codec.proofs.Each.{byte-many, many-each, each-many}
 use Rattle.image.specs.How.{isCarried}
 
 -- sixteen bytes whose held ones are at the front

@@ -2,14 +2,14 @@
 -- Assumes nothing.
 use mathlib.Core.Path.{_≡_, refl, sym, ap, _∙_}
 use mathlib.Core.List.{List, [], _∷_, _++_}
-use Prim.Native.Nat.{ℕ, zero, suc, _+_, _*_, _/_, _%_, _^_, _≤_, _<_}
+use Prim.Native.Nat.{ℕ, zero, suc, _+_, _*_, _/_, _^_, _≤_, _<_}
 use native.Mathlib.Omega.{arith}
-use lib.ListN.{length, take, drop, getD}
+use lib.ListN.{length, take, getD}
 use lib.Seq.{getD-take, take-add, take-take}
 use mir.Syntax.{w8}
 use mir.Val.{Fits}
 use Rattle.fold.specs.Output.{bytesOf}
-use Rattle.wire.specs.Bytes.{byte, leOf, leBytes}
+use Rattle.wire.specs.Bytes.{leOf, leBytes}
 use Rattle.wire.proofs.Numbers.{le-bytes, bytes-le, le-behind}
 use Rattle.judge.specs.How.{Agree}
 

@@ -1,10 +1,9 @@
 -- What is made of a log, and what is then written. Assumes nothing.
 use mathlib.Core.Path.{_≡_, refl, sym, ap, _∙_, subst}
 use mathlib.Core.List.{List}
-use Prim.Native.Nat.{ℕ, _^_, _≤_, _<_}
+use Prim.Native.Nat.{ℕ, _≤_}
 use native.Mathlib.Omega.{arith}
 use lib.ListN.{length, drop}
-use Rattle.io.specs.Counts.{Counts}
 use Rattle.fold.specs.Run.{Course, going, stopped}
 use Rattle.fold.specs.Output.{numberOf, stopOf}
 use Rattle.replay.specs.Replay.{replayed}

@@ -1,22 +1,22 @@
 -- A call that makes bytes or is refused, and what is then written. Assumes nothing.
 use mathlib.Core.Path.{_≡_, refl, sym, ap, _∙_}
-use mathlib.Core.Bool.{Bool, true, false, cond}
+use mathlib.Core.Bool.{Bool, true, false}
 use mathlib.Core.List.{List, [], _∷_, _++_}
 use Prim.Native.Nat.{ℕ, _+_, _^_, _≤_, _<_}
 use native.Mathlib.Omega.{arith}
-use lib.Dec.{ltb, eqb}
-use lib.ListN.{length, take, drop, length-append}
+use lib.Dec.{ltb}
+use lib.ListN.{length, length-append}
 use lib.Seq.{take-at, length-take-le}
-use borrow.Author.Tests.{lt-ltb, le-ltb, eq-eqb, ne-eqb, eqb-true, eqb-false, ltb-true, ltb-false}
+use borrow.Author.Tests.{eq-eqb, ne-eqb, ltb-true, ltb-false}
 use Rattle.decimal.specs.Ascii.{ascii}
 use Rattle.io.specs.Counts.{Counts}
 use Rattle.decimal.specs.Digits.{digitsOf}
 use Rattle.decimal.specs.Put.{Put}
 use Rattle.decimal.proofs.Back.{twenty-digits}
 use Rattle.decimal.proofs.Puts.{put-whole, put-long}
-use Rattle.text.specs.Text.{line, refusedText, refusedRecordText}
+use Rattle.text.specs.Text.{refusedText, refusedRecordText}
 use Rattle.printed.specs.declared.Printed.{Printed}
-use Rattle.printed.specs.Printed.{printedBy, Prints, Printing}
+use Rattle.printed.specs.Printed.{Prints, Printing}
 
 -- bytes in front of others, and bytes put at the front
 pub fronts : (s rest : List ℕ) → Counts (length s) (s ++ rest)

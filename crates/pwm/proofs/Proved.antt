@@ -10,7 +10,6 @@ use Rattle.laws.proofs.Cases.{cases, by-le}
 use Rattle.divider.specs.Divider.{dividerOf}
 use Rattle.pwm.specs.declared.Registers.{Registers}
 use Rattle.pwm.specs.declared.Wave.{Wave}
-use Rattle.pwm.specs.declared.Pwm.{Pwm}
 use Rattle.pwm.specs.Pwm.{mode, topOf, stepped, ticked, waited}
 use Rattle.pwm.specs.How.{at, moved}
 use Rattle.pwm.specs.Facts.{Always, Quiet, Short, Agree}

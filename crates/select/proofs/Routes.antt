@@ -10,7 +10,7 @@ use lib.Dec.{eqb}
 use borrow.Author.Tests.{le-ltb}
 use Rattle.bits.specs.Bits.{num}
 use Rattle.select.specs.Select.{fieldOf, pwmRouted}
-use Rattle.select.specs.How.{marks, ones, pwmPins}
+use Rattle.select.specs.How.{marks, pwmPins}
 use Rattle.select.proofs.Marks.{mark}
 use Rattle.select.proofs.Fields.{inside}
 

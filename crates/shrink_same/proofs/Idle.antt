@@ -1,15 +1,14 @@
 -- A record that the rule drops goes to the very same state, and one that stays keeps the memory fitting. Assumes nothing.
 use mathlib.Core.Path.{_≡_, refl, sym, ap, _∙_, subst}
-use mathlib.Core.Bool.{Bool, true, false, not, cond, _&&_, _||_, true≢false, false≢true}
+use mathlib.Core.Bool.{Bool, true, false, not, cond, _&&_, _||_, false≢true}
 use mathlib.Core.List.{List, [], _∷_}
-use Prim.Native.Nat.{ℕ, _+_, _*_, _<_}
+use Prim.Native.Nat.{ℕ, _<_}
 use native.Mathlib.Omega.{arith}
-use lib.ListN.{length, getD, set}
 use lib.Seq.{set-getD}
 use lib.Dec.{eqb}
-use borrow.Author.Tests.{eqb-true, eqb-false, ne-eqb, eq-eqb}
+use borrow.Author.Tests.{eqb-true, ne-eqb}
 use Rattle.laws.proofs.Truth.{both-true}
-use Rattle.fold.specs.Turn.{Turn, goes, reads, refused, lift, applies, leaves}
+use Rattle.fold.specs.Turn.{Turn, goes, refused, lift, applies, leaves}
 use Rattle.fold.proofs.Shrinks.{Safe}
 use Rattle.edition.specs.declared.Edition.{Edition}
 use Rattle.wire.specs.Bytes.{byte, leOf}
@@ -23,21 +22,20 @@ use Rattle.encoder.specs.declared.Encoder.{Encoder}
 use Rattle.encoder.specs.Encoder as encoder
 use Rattle.select.specs.Select.{encoderRouted}
 use Rattle.bank.specs.declared.Bank.{Bank}
-use Rattle.bank.specs.Bank.{encoderAt, withEncoder, toEncoder}
+use Rattle.bank.specs.Bank.{encoderAt, withEncoder}
 use Rattle.bank.specs.Bank as bank
 use Rattle.banks.specs.declared.State.{State}
-use Rattle.banks.specs.State.{fresh, bankAt, withBank, bothBanks}
+use Rattle.banks.specs.State.{fresh, bankAt, withBank}
 use Rattle.banks.proofs.Whole.{Both}
 use Rattle.banks.proofs.Sweeps.{bank-itself}
 use Rattle.walk.specs.Turn.{turnOf}
 use Rattle.fold.proofs.Turns.{lift-applies}
 use Rattle.walk.proofs.Replaying.{by-turn, ticking, banking}
-use Rattle.travel.specs.Stretch.{names}
 use Rattle.travel.proofs.Events.{Event, pins, config, route, nothing, eventAt}
 use Rattle.travel.proofs.Counting.{Channel, onEvent}
 use Rattle.travel.proofs.Banks.{Sound, viewAt, turn-view, sound-turn, sound-fresh}
 use Rattle.shrink.specs.Shrink.{shows, drops}
-use Rattle.shrink.specs.How.{writes, sortOf, none, dropsBy, learnsBy, rule}
+use Rattle.shrink.specs.How.{sortOf, none, dropsBy, learnsBy, rule}
 use Rattle.shrink.proofs.Sorts.{Row, row, applied-row}
 use Rattle.shrink.proofs.Same.{Agrees, agrees-first, learns-next, same-drops}
 use Rattle.shrink_same.proofs.Again.{pins-twice, not-ticked, map-itself}

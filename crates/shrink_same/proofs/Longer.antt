@@ -7,7 +7,7 @@ use native.Mathlib.Omega.{arith}
 use lib.Dec.{eqb}
 use borrow.Author.Tests.{eqb-true, not-true}
 use Rattle.laws.proofs.Truth.{both-true, neither}
-use Rattle.fold.specs.Run.{Run, going, runOf}
+use Rattle.fold.specs.Run.{going, runOf}
 use Rattle.fold.proofs.Laws as laws
 use Rattle.fold.proofs.Runs.{goes-applies}
 use Rattle.edition.specs.declared.Edition.{Edition}
@@ -24,7 +24,7 @@ use Rattle.banks.proofs.Whole.{Both}
 use Rattle.replay.specs.Replay.{played}
 use Rattle.walk.specs.Turn.{turnOf}
 use Rattle.travel.specs.Stretch.{names, pinsIn, keeps, undisturbed, Stretch}
-use Rattle.travel.proofs.Events.{Event, pins, config, route, nothing, eventAt, pins-bank}
+use Rattle.travel.proofs.Events.{pins, config, route, nothing, eventAt, pins-bank}
 use Rattle.travel.proofs.Counting.{Channel, onEvent}
 use Rattle.travel.proofs.Banks.{Sound, viewAt, turn-view, turn-pins, sound-turn, sound-fresh}
 use Rattle.shrink.specs.Shrink.{shows, drops}

@@ -2,12 +2,12 @@
 use mathlib.Core.Path.{_≡_, refl, sym, ap, _∙_, subst}
 use mathlib.Core.Bool.{Bool, true, false, cond}
 use mathlib.Core.List.{List, [], _∷_, _++_, reverse, append-assoc, flatten}
-use Prim.Native.Nat.{ℕ, _+_, _*_, _/_, _≤_, _<_}
+use Prim.Native.Nat.{ℕ, _+_, _*_, _≤_}
 use native.Mathlib.Omega.{arith}
 use lib.Dec.{leb}
 use lib.ListN.{length, take, drop}
 use borrow.Author.Tests.{leb-true}
-use Rattle.fold.specs.Run.{Run, Course, going, stopped, under, halted}
+use Rattle.fold.specs.Run.{Run, going, under, halted}
 use Rattle.fold.specs.Device.{records}
 use Rattle.fold.specs.Shrink as fold
 use Rattle.fold.proofs.Laws as laws
@@ -18,10 +18,8 @@ use Rattle.wire.specs.Trailer.{trailerOf, recordsAt, recordsOf, editionAt, edit
 use Rattle.wire.specs.declared.Trailer.{Trailer}
 use Rattle.wire.specs.declared.Trailer.the-variants.{Found, Refused}
 use Rattle.wire.proofs.Laws.{ends}
-use Rattle.encoder.specs.Encoder.{countsInQuadrature}
-use Rattle.bank.specs.Bank.{encoderAt}
 use Rattle.banks.specs.declared.State.{State}
-use Rattle.banks.specs.State.{fresh, bankAt}
+use Rattle.banks.specs.State.{fresh}
 use Rattle.edition.specs.Edition.{editionOf}
 use Rattle.replay.specs.Replay.{played, playOf, replayFrom, replayOf}
 use Rattle.walk.specs.Turn.{turnOf}
@@ -30,12 +28,12 @@ use Rattle.replay.proofs.Proved as replay
 use Rattle.travel.specs.Stretch.{Stretch}
 use Rattle.writer.specs.Writer.{logOf}
 use Rattle.shrink.specs.Shrink.{drops, kept, smallerAt, smallerOf}
-use Rattle.shrink.specs.How.{rule, none, keptIn, smallerIn}
+use Rattle.shrink.specs.How.{rule, none}
 use Rattle.shrink.proofs.Every.{Sixteen}
 use Rattle.shrink.proofs.Whole.{notes-count, sixteen, shorter, log-ready, log-kept, log-smaller}
 use Rattle.shrink_same.specs.Same.{Same, Kept, Stretches}
 use Rattle.shrink_same.proofs.Runs.{same-run, kept-twice, fewer-reads, kept-cut, kept-first, calm-kept, steps-kept, doubles-kept, steps-again, doubles-again}
-use Rattle.shrink_same.proofs.Longer.{Longer, longer}
+use Rattle.shrink_same.proofs.Longer.{longer}
 use Rattle.shaft.specs.Shaft.{steps, doubles}
 use Rattle.shrink_same.proofs.Bytes.{is-known, new-trailer, new-records, new-notes}
 

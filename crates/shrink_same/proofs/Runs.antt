@@ -1,16 +1,16 @@
 -- The run of the records that stay, and the pins among them. Assumes nothing.
 use mathlib.Core.Path.{_≡_, refl, sym, ap, _∙_, subst}
-use mathlib.Core.Bool.{Bool, true, false, not, cond, _&&_, _||_, false≢true}
-use mathlib.Core.List.{List, [], _∷_, _++_, reverse, reverseAux}
-use Prim.Native.Nat.{ℕ, zero, suc, _+_, _-_, _%_, _≤_}
+use mathlib.Core.Bool.{Bool, true, false, not, cond, _&&_}
+use mathlib.Core.List.{List, [], _∷_, _++_, reverseAux}
+use Prim.Native.Nat.{ℕ, _+_, _-_, _%_, _≤_}
 use native.Mathlib.Omega.{arith}
 use lib.ListN.{length}
 use lib.Dec.{eqb}
-use lib.IntN.{ℤ, pos, _+ℤ_, +ℤ-idl}
+use lib.IntN.{ℤ, _+ℤ_, +ℤ-idl}
 use borrow.Author.Tests.{eqb-true}
 use Rattle.laws.proofs.Truth.{both-true}
 use Rattle.bits.specs.Bits.{bit, num, changes}
-use Rattle.fold.specs.Run.{Run, going, under, runOf}
+use Rattle.fold.specs.Run.{going, under}
 use Rattle.fold.specs.Shrink as fold
 use Rattle.fold.proofs.Shrinks as shrinks
 use Rattle.edition.specs.declared.Edition.{Edition}
@@ -18,7 +18,6 @@ use Rattle.wire.specs.Bytes.{byte, leOf, asks, readsIn}
 use Rattle.wire.specs.Record.{bankOf}
 use Rattle.encoder.specs.Encoder.{place, places}
 use Rattle.shaft.specs.Shaft.{stepOf, steps, doubles}
-use Rattle.banks.specs.declared.State.{State}
 use Rattle.banks.specs.State.{fresh}
 use Rattle.replay.specs.Replay.{played}
 use Rattle.walk.specs.Turn.{turnOf}
@@ -26,7 +25,7 @@ use Rattle.travel.specs.Stretch.{names, pinsIn, keeps, undisturbed}
 use Rattle.shrink.specs.Shrink.{shows, drops, kept}
 use Rattle.shrink.specs.How.{writes, none, rule}
 use Rattle.shrink.proofs.Every.{kept-every}
-use Rattle.shrink.proofs.Sorts.{Rows, rows}
+use Rattle.shrink.proofs.Sorts.{rows}
 use Rattle.shrink.proofs.Same.{agrees-first, same-kept}
 use Rattle.shrink_same.proofs.Idle.{Fits, fits-first, safe}
 

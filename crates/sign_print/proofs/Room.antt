@@ -1,5 +1,5 @@
 -- How long the text can be. Assumes nothing.
-use mathlib.Core.Path.{_≡_, refl, sym, ap, _∙_}
+use mathlib.Core.Path.{_≡_, refl}
 use mathlib.Core.Bool.{Bool, true, false, cond}
 use mathlib.Core.List.{List, [], _∷_, _++_, map, flatten}
 use Prim.Native.Nat.{ℕ, zero, suc, _+_, _-_, _*_, _^_, _<_, _≤_}
@@ -12,7 +12,7 @@ use Rattle.decimal.specs.Ascii.{ascii}
 use Rattle.decimal.specs.Digits.{digitsOf}
 use Rattle.decimal.proofs.Back.{few-digits, twenty-digits}
 use Rattle.shaft.specs.Shaft.{forward, backward, still}
-use Rattle.text.specs.Text.{line, stopText}
+use Rattle.text.specs.Text.{stopText}
 use Rattle.sign.specs.Sign.{Entry, Verdict, settled, unsettled, verdictOf}
 use Rattle.sign.specs.Facts.{Each}
 use Rattle.sign.proofs.Fine.{Fine}

@@ -18,7 +18,7 @@ use Rattle.replay.specs.Replay.{replayOf}
 use Rattle.form.specs.Form.{formText}
 use Rattle.wire.specs.Trailer.{recordsOf}
 use Rattle.wire.proofs.Laws.{few-records}
-use Rattle.sign.specs.Sign.{stretchesOf, listing, pinsRecords, signOf, signedOf, signOutput}
+use Rattle.sign.specs.Sign.{stretchesOf, pinsRecords, signOf, signedOf, signOutput}
 use Rattle.sign.specs.declared.Signed.{Signed}
 use Rattle.sign.proofs.Fine.{log-fine}
 use Rattle.sign.proofs.Listing.{pins-few}

@@ -17,7 +17,7 @@ use Rattle.live_cut.proofs.Proved.{cuts}
 use Rattle.image.specs.Image.{size, imageOf, Fits, Stands}
 use Rattle.image.proofs.Loaded.{image-long}
 use Rattle.image.proofs.Proved.{images}
-use Rattle.stream.specs.Stream.{startOf, startedIn, On}
+use Rattle.stream.specs.Stream.{startOf, startedIn}
 use Rattle.stream.specs.Facts.{Called, Streams, OnSettled}
 use Rattle.stream.proofs.Keeping.{fits-chunk, fits-fresh}
 

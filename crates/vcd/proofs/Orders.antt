@@ -13,8 +13,7 @@ use Rattle.vcd.specs.declared.Step.{Step}
 use Rattle.vcd.specs.declared.Step.the-variants.{Wait, Pins}
 use Rattle.vcd.specs.declared.Line.{Line}
 use Rattle.vcd.specs.declared.Line.the-variants.{Fixed, Var, Unknown, Time, Change, Other}
-use Rattle.vcd.specs.Dump.{declared, startOf, wiresFrom, headerOf, changeOf, changesOf, timed, bodyFrom, dumpOf, Good}
-use Rattle.vcd.specs.Entries.{entriesAt, entriesFrom}
+use Rattle.vcd.specs.Dump.{startOf, wiresFrom, headerOf, changeOf, changesOf, timed, bodyFrom, dumpOf, Good}
 use Rattle.vcd.specs.How.{pinOf}
 use Rattle.vcd.specs.Facts.{AllShown}
 use Rattle.vcd.proofs.Starts.{Fresh, fresh-start, long-start}

@@ -5,7 +5,7 @@ use mathlib.Core.List.{List, [], _∷_, _++_}
 use Prim.Native.Nat.{ℕ, _+_, _/_, _%_, _^_, _≤_, _<_}
 use native.Mathlib.Omega.{arith}
 use lib.Dec.{ltb, eqb}
-use lib.ListN.{length, take, drop, length-append}
+use lib.ListN.{length, drop, length-append}
 use borrow.Author.Tests.{le-ltb, ltb-false, eqb-true, eqb-false}
 use Rattle.decimal.specs.Ascii.{ascii}
 use Rattle.io.specs.Counts.{Counts}
@@ -27,7 +27,7 @@ use Rattle.wire.proofs.Laws.{length-records}
 use Rattle.writer.specs.declared.Written.{Written}
 use Rattle.writer.specs.How.{recordsIn}
 use Rattle.writer.specs.Writer.{logOf, refusedBy, firstOf, writtenOf, outputOf}
-use Rattle.writer.proofs.Answers.{Accepted, accepted}
+use Rattle.writer.proofs.Answers.{accepted}
 use Rattle.printed.specs.declared.Printed.{Printed}
 use Rattle.printed.specs.Printed.{Prints, Printing}
 use Rattle.printed.proofs.Prints.{put-counts, prints-made, prints-refused}

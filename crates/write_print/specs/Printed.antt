@@ -1,5 +1,5 @@
 -- What `rvz write` writes. Assumes nothing.
-use mathlib.Core.List.{List, [], _∷_}
+use mathlib.Core.List.{List}
 use Prim.Native.Nat.{ℕ}
 use Rattle.decimal.specs.Ascii.{ascii}
 use Rattle.decimal.specs.declared.Decimal.{Decimal}

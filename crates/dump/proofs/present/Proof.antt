@@ -1,7 +1,7 @@
 -- `dump::present` meets its contract: the encoders of the records passed are marked. Assumes nothing.
 use Prim.Native.Nat.{_-_}
 use borrow.Author.Needs.{needs}
-use Rattle.dump.proofs.Passes.{Marking, marking, a-record, all-marked, marks-wait, pins-encoder, marks-pins}
+use Rattle.dump.proofs.Passes.{Marking, marking, all-marked, marks-wait, pins-encoder, marks-pins}
 use Rattle.dump.proofs.present.Statement.{statement}
 use Rattle.dump.proofs.present.Tie as tie
 

@@ -1,5 +1,4 @@
 use Rattle.select.proofs.Ports.{port-i2c, pins-i2c}
-use borrow.Author.Needs.{needs}
 use Rattle.select.proofs.i2c_routed.Statement.{statement}
 use Rattle.select.proofs.i2c_routed.Tie as tie
 

@@ -1,7 +1,6 @@
 use Rattle.select.proofs.Ports.{port-pins, pins-pins}
 use Rattle.select.proofs.Marks.{ones-found}
 use native.Mathlib.Omega.{arith}
-use borrow.Author.Needs.{needs}
 use Rattle.select.proofs.pwm_pins.Statement.{statement}
 use Rattle.select.proofs.pwm_pins.Tie as tie
 

@@ -1,7 +1,6 @@
 -- `sign_print::put_stretches` meets its contract: the lines of the entries passed stand in the text. Assumes nothing.
 use Prim.Native.Nat.{_-_}
 use native.Mathlib.Omega.{arith}
-use borrow.Author.Needs.{needs}
 use Rattle.sign_print.proofs.Saying.{Saying, begins, same-long, here, next, all-said}
 use Rattle.sign_print.proofs.put_stretches.Statement.{statement}
 use Rattle.sign_print.proofs.put_stretches.Tie as tie

@@ -2,7 +2,7 @@
 use mathlib.Core.Path.{refl}
 use mathlib.Core.Logic.{inr}
 use borrow.Author.Needs.{needs}
-use Rattle.stream.proofs.Ways.{is-state, good, ends, nothing}
+use Rattle.stream.proofs.Ways.{is-state, ends, nothing}
 use Rattle.stream.proofs.end.Statement.{statement}
 use Rattle.stream.proofs.end.Tie as tie
 

@@ -1,5 +1,4 @@
 -- `vcd::var_line` meets its contract. Assumes nothing.
-use native.Mathlib.Omega.{arith}
 use Rattle.vcd.specs.Lines.{varOf}
 use borrow.Author.Needs.{needs}
 use Rattle.vcd.proofs.var_line.Statement.{statement}

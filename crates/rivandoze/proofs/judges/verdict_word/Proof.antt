@@ -4,8 +4,6 @@ use borrow.Author.Needs.{needs}
 use Rattle.rivandoze.proofs.JudgeWord.{index-place, index-beside, index-part, refused-part}
 use Rattle.rivandoze.proofs.judges.verdict_word.Statement.{statement}
 use Rattle.rivandoze.proofs.judges.verdict_word.Tie as tie
-use Rattle.rivandoze.proofs.judges.verdict_word.Reads as reads
-use Rattle.rivandoze.proofs.judges.verdict_word.Lts as lts
 
 pub verdict-word-spec : {M : Type 1} → statement M
 verdict-word-spec =
