@@ -7,9 +7,9 @@ cd "$(dirname "$0")/.." || exit 2
 . check/tools.sh
 . check/system64.sh
 need cargo cargo
-need_system64
 work=$(mktemp -d)
 trap 'rm -rf "$work"' EXIT
+need_system64
 seed=${SEED:-$(date +%s)}
 second=target/check/release/rvz-check
 strict=(-std=c99 -O2 -Wall -Wextra -Wpedantic -Werror -Iinclude)
@@ -82,13 +82,17 @@ no_state() {
         "$(nm -u target/staticlib/librivandoze.a | awk '$1 == "U" { print $2 }' | grep -vxE 'mem(cpy|move|set|cmp)|_GLOBAL_OFFSET_TABLE_' | xargs)"
 }
 
+# An emulated system lets nothing out behind the end of its input, so this input has none.
+watched() { "${system[@]}" "$@" <>"$work/input" 2>&1; }
+
 threads() {
     local wanted
+    mkfifo "$work/input"
     must 'misuse: the threads can be watched' make_system64 "$work"/{threads,shared} "${all[@]}"
     wanted="8 threads, ${#all[@]} logs, all calls $((8 * 2 * ${#all[@]})) times"
     same 'misuse: eight threads find what one alone has found, and ThreadSanitizer sees nothing' "$wanted status 0" \
-        "$("${system[@]}" "$work/threads" 8 2 "${all[@]}" 2>&1) status $?"
-    "${system[@]}" "$work/shared" 4 2 "${samples[@]}" >"$work/out" 2>&1
+        "$(watched "$work/threads" 8 2 "${all[@]}") status $?"
+    watched "$work/shared" 4 2 "${samples[@]}" >"$work/out"
     same 'misuse: an output that is shared is seen' '1 yes' "$([ $? -ne 0 ] && echo 1) $(grep -q 'ThreadSanitizer: data race' "$work/out" && echo yes)"
 }
 
