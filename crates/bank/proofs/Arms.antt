@@ -5,7 +5,7 @@ use mathlib.Core.Bool.{Bool, true, false, cond, _&&_}
 use Prim.Native.Nat.{ℕ}
 use borrow.Author.Tests.{ne-eqb}
 use Rattle.laws.proofs.Cases.{taken, left, arm}
-use Rattle.wire.specs.declared.Record.{Record}
+use Rattle.records.specs.declared.Record.{Record}
 use Rattle.edition.specs.declared.Edition.{Edition}
 use Rattle.encoder.specs.Encoder.{mode}
 use Rattle.i2c.specs.declared.I2c.{I2c}

@@ -3,7 +3,7 @@ use edition::Edition;
 use encoder::Encoder;
 use i2c::I2c;
 use pwm::Pwm;
-use wire::Record;
+use records::Record;
 ghost use mathlib.Core.Path.{_≡_};
 ghost use Rattle.bank.specs.Bank.{fresh, reroute};
 ghost use Rattle.bank.specs.How.{unrouted, cnfgRefusal, selectRefusal, goRefusal, i2cRefusal, refusalOf};

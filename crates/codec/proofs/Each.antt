@@ -8,7 +8,7 @@ use native.Mathlib.Omega.{arith}
 use native.Mathlib.Nat.{add-zero, zero-add, suc-add, mul-zero, zero-mul, not-suc-le-zero, le-of-suc-le-suc}
 use lib.ListN.{length, take, drop, getD}
 use Rattle.laws.proofs.Truth.{both-true}
-use Rattle.wire.specs.Bytes.{byte}
+use Rattle.numbers.specs.Bytes.{byte}
 use Rattle.codec.specs.How.{loadMany, okMany, Each}
 use Rattle.codec.proofs.Many.{both}
 

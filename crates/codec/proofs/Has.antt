@@ -7,7 +7,7 @@ use native.Mathlib.Omega.{arith}
 use native.Mathlib.Nat.{add-zero, zero-add, add-suc, suc-add}
 use lib.ListN.{length, take}
 use lib.Seq.{ext-getD, length-take-le, getD-take}
-use Rattle.wire.specs.Bytes.{byte}
+use Rattle.numbers.specs.Bytes.{byte}
 use Rattle.codec.specs.How.{Has, Bytes}
 
 pub has-first : (s : List ℕ) (xs ys : List ℕ) (at : ℕ) → Has s at (xs ++ ys) → Has s at xs

@@ -6,7 +6,7 @@ use mathlib.Core.List.{List, [], _∷_}
 use Prim.Native.Nat.{ℕ, zero, suc, _+_, _*_, _/_, _^_, _<_}
 use native.Mathlib.Omega.{arith}
 use native.Mathlib.Nat.{pow-suc, div-lt-iff-lt-mul}
-use Rattle.wire.specs.Bytes.{byte, leOf, leBytes}
+use Rattle.numbers.specs.Bytes.{byte, leOf, leBytes}
 use Rattle.codec.specs.How.{Has, Bytes, Lawful, Number, saveWord, loadWord, okWord}
 
 le-has : (n v : ℕ) (s : List ℕ) (at : ℕ) → v < 256 ^ n → Has s at (leBytes n v) → leOf n s at ≡ v

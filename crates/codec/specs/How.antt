@@ -5,7 +5,7 @@ use mathlib.Core.Path.{_≡_}
 use mathlib.Core.List.{List, [], _∷_, _++_}
 use mathlib.Core.Bool.{Bool, true, _&&_}
 use lib.ListN.{length}
-use Rattle.wire.specs.Bytes.{byte, leOf, leBytes}
+use Rattle.numbers.specs.Bytes.{byte, leOf, leBytes}
 
 -- s has the bytes bs from a place on
 abbrev pub Has : List ℕ → ℕ → List ℕ → Type 0

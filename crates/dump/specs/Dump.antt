@@ -3,8 +3,8 @@ use Prim.Native.Nat.{ℕ, _+_, _*_}
 use mathlib.Core.List.{List, map}
 use mathlib.Core.Bool.{cond}
 use lib.Dec.{eqb}
-use Rattle.wire.specs.Bytes.{byte, leOf}
-use Rattle.wire.specs.Trailer.{recordsOf}
+use Rattle.numbers.specs.Bytes.{byte, leOf}
+use Rattle.trailer.specs.Trailer.{recordsOf}
 use Rattle.vcd.specs.declared.Step.{Step}
 use Rattle.vcd.specs.declared.Step.the-variants.{Wait, Pins}
 use Rattle.vcd.specs.Lines.{textOf}

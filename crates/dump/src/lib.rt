@@ -30,11 +30,11 @@ fn seen(log: &[u8], at: usize) -> Step
     if log[at] == 3 {
         return Step::Pins {
             encoder: 10 * wide(log[at + 4]) + wide(log[at + 2]),
-            value: wire::le64(log, at + 8),
+            value: numbers::le64(log, at + 8),
         };
     }
     if log[at] == 4 {
-        return Step::Wait(wire::le64(log, at + 8));
+        return Step::Wait(numbers::le64(log, at + 8));
     }
     Step::Wait(0)
 }

@@ -6,9 +6,9 @@ use mathlib.Core.List.{List}
 use lib.ListN.{length, take, drop}
 use Rattle.fold.specs.Run.{going}
 use Rattle.edition.specs.declared.Edition.{Edition}
-use Rattle.wire.specs.Record.{bankOf, decodeOf}
-use Rattle.wire.specs.declared.Record.the-variants.{Pins, Ticks}
-use Rattle.wire.specs.declared.Decoded.the-variants.{Names}
+use Rattle.wire.specs.Decode.{bankOf, decodeOf}
+use Rattle.records.specs.declared.Record.the-variants.{Pins, Ticks}
+use Rattle.records.specs.declared.Decoded.the-variants.{Names}
 use Rattle.vcd.specs.declared.Step.the-variants.{Wait, Pins as Seen}
 use Rattle.vcd.specs.Entries.{entriesIn}
 use Rattle.vcd.specs.Reader.{Reads}

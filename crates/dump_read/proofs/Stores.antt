@@ -11,7 +11,7 @@ use lib.ListN.{length, take, getD, set, replicate, length-append}
 use lib.Seq.{sets, length-sets, take-suc, take-all, length-take-le}
 use borrow.Author.Tests.{ne-eqb}
 use Rattle.decimal.specs.Put.{Put}
-use Rattle.wire.specs.Bytes.{leBytes}
+use Rattle.numbers.specs.Bytes.{leBytes}
 use Rattle.vcd.specs.declared.Line.{Line}
 use Rattle.vcd.specs.declared.Line.the-variants.{Fixed, Var, Unknown, Time, Change, Other}
 use Rattle.vcd.specs.declared.Reader.{Reader}

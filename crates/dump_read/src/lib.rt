@@ -30,7 +30,7 @@ fn entry(time: u64, e: usize, p: u8) -> [u8; 16]
     ensures { λ r. ⌜ r ≡ entryBytes (record { time = time; encoder = e; pins = p }) ⌝ }
 {
     let mut x = [0u8; 16];
-    wire::put64(&mut x, 0, time);
+    numbers::put64(&mut x, 0, time);
     x[8] = (e / 10) as u8;
     x[9] = (e % 10) as u8;
     x[10] = p;

@@ -8,9 +8,9 @@ use native.Mathlib.Omega.{arith}
 use lib.Dec.{eqb}
 use Rattle.fold.specs.Turn.{Turn, goes, refused, lift, applies}
 use Rattle.edition.specs.Edition.{editionOf}
-use Rattle.wire.specs.Record.{bankOf}
-use Rattle.wire.specs.declared.Record.{Record}
-use Rattle.wire.specs.declared.Record.the-variants.{WriteSelect, WriteEncoder, WritePwm, WriteI2c, Answer, ReadSelect, ReadEncoder, ReadPwm, ReadI2c, Pins, Ticks}
+use Rattle.wire.specs.Decode.{bankOf}
+use Rattle.records.specs.declared.Record.{Record}
+use Rattle.records.specs.declared.Record.the-variants.{WriteSelect, WriteEncoder, WritePwm, WriteI2c, Answer, ReadSelect, ReadEncoder, ReadPwm, ReadI2c, Pins, Ticks}
 use Rattle.wire.proofs.Formed.{refused-by}
 use Rattle.select.specs.Select.{encoderRouted, pwmRouted, i2cRouted}
 use Rattle.i2c.specs.declared.I2c.{I2c}

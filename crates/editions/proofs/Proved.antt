@@ -11,12 +11,14 @@ use lib.Dec.{leb}
 use borrow.Author.Tests.{eq-eqb, ne-eqb}
 use Rattle.edition.specs.Edition.{editionOf}
 use Rattle.edition.specs.declared.Edition.{Edition}
-use Rattle.wire.specs.Bytes.{byte, leOf, readsIn}
-use Rattle.wire.specs.declared.Record.{Record}
-use Rattle.wire.specs.Record.{bankOf, decodeOf, namedOf, writeOf, pinsOf}
-use Rattle.wire.specs.Trailer.{trailerOf, recordsOf}
-use Rattle.wire.specs.declared.Trailer.the-variants.{Found}
-use Rattle.wire.specs.declared.Decoded.the-variants.{Names}
+use Rattle.numbers.specs.Bytes.{byte, leOf}
+use Rattle.wire.specs.Decode.{readsIn}
+use Rattle.records.specs.declared.Record.{Record}
+use Rattle.wire.specs.Decode.{bankOf, decodeOf}
+use Rattle.records.specs.Record.{namedOf, writeOf, pinsOf}
+use Rattle.trailer.specs.Trailer.{trailerOf, recordsOf}
+use Rattle.trailer.specs.declared.Trailer.the-variants.{Found}
+use Rattle.records.specs.declared.Decoded.the-variants.{Names}
 use Rattle.laws.specs.Each.{mapFrom}
 use Rattle.select.specs.Select.{fieldOf, some, encoderRouted}
 use Rattle.encoder.specs.Encoder.{en, rst, mode, statOf, countsInQuadrature}

@@ -6,8 +6,8 @@ use Prim.Native.Nat.{ℕ}
 use Rattle.laws.proofs.Each.{each-keeps, set-keeps, fresh-keeps}
 use Rattle.fold.specs.Turn.{Turn, goes, reads, refused, lift, applies, leaves}
 use Rattle.edition.specs.Edition.{editionOf}
-use Rattle.wire.specs.declared.Record.{Record}
-use Rattle.wire.specs.declared.Record.the-variants.{WriteSelect, WriteEncoder, WritePwm, WriteI2c, Answer, ReadSelect, ReadEncoder, ReadPwm, ReadI2c, Pins, Ticks}
+use Rattle.records.specs.declared.Record.{Record}
+use Rattle.records.specs.declared.Record.the-variants.{WriteSelect, WriteEncoder, WritePwm, WriteI2c, Answer, ReadSelect, ReadEncoder, ReadPwm, ReadI2c, Pins, Ticks}
 use Rattle.select.specs.Select.{allowed, encoderRouted, pwmRouted, i2cRouted}
 use Rattle.encoder.specs.declared.Encoder.{Encoder}
 use Rattle.encoder.specs.Encoder as encoder

@@ -6,8 +6,8 @@ use mathlib.Core.Bool.{true, false}
 use mathlib.Core.List.{List, [], _∷_}
 use Rattle.fold.specs.Run.{going, stopped}
 use Rattle.edition.specs.Edition.{editionOf}
-use Rattle.wire.specs.Trailer.{trailerOf, recordsOf}
-use Rattle.wire.specs.declared.Trailer.the-variants.{Found}
+use Rattle.trailer.specs.Trailer.{trailerOf, recordsOf}
+use Rattle.trailer.specs.declared.Trailer.the-variants.{Found}
 use Rattle.select.specs.Select.{encoderRouted}
 use Rattle.encoder.specs.Encoder.{en, rst, countsInQuadrature}
 use Rattle.bank.specs.Bank.{encoderAt}

@@ -11,9 +11,10 @@ use Rattle.fold.specs.Output.{numberOf, bytesOf, over, outputOf}
 use Rattle.fold.specs.Device.{records}
 use Rattle.encoder.specs.Encoder.{statOf}
 use Rattle.select.specs.Select.{fieldOf, some}
-use Rattle.wire.specs.Bytes.{byte, leOf}
-use Rattle.wire.specs.Trailer.{trailerOf}
-use Rattle.wire.specs.Record.{decodeOf, namedOf, writeOf, readOf, pinsOf, ticksOf, answerOf}
+use Rattle.numbers.specs.Bytes.{byte, leOf}
+use Rattle.trailer.specs.Trailer.{trailerOf}
+use Rattle.wire.specs.Decode.{decodeOf}
+use Rattle.records.specs.Record.{namedOf, writeOf, readOf, pinsOf, ticksOf, answerOf}
 use Rattle.bank.specs.Bank as bank
 use Rattle.replay.specs.Replay.{played, playOf, replayFrom, replayOf}
 use Rattle.banks.specs.declared.State.{State}

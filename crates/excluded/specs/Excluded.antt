@@ -10,9 +10,9 @@ use Rattle.fold.specs.Turn.{lift, retell}
 use Rattle.fold.specs.Run.{Run, halted, under, resumed, runOf}
 use Rattle.fold.specs.Output.{numberOf}
 use Rattle.encoder.specs.declared.Encoder.{Encoder}
-use Rattle.wire.specs.Bytes.{readsIn}
-use Rattle.wire.specs.Trailer.{trailerOf, recordsOf, editionIn}
-use Rattle.wire.specs.declared.Trailer.the-variants.{Found}
+use Rattle.wire.specs.Decode.{readsIn}
+use Rattle.trailer.specs.Trailer.{trailerOf, recordsOf, editionIn}
+use Rattle.trailer.specs.declared.Trailer.the-variants.{Found}
 use Rattle.banks.specs.declared.State.{State}
 use Rattle.banks.specs.State.{fresh, bothBanks}
 use Rattle.replay.specs.Replay.{played, replayOf}

@@ -10,7 +10,7 @@ use lib.Seq.{length-take-le}
 use lib.Dec.{ltb, leb, eqb}
 use borrow.Author.Tests.{le-leb, lt-leb, leb-true, eq-eqb, ne-eqb, eqb-true, ltb-true, ltb-false, lt-ltb}
 use Rattle.laws.proofs.Truth.{both-true}
-use Rattle.wire.specs.Bytes.{byte, leOf}
+use Rattle.numbers.specs.Bytes.{byte, leOf}
 use Rattle.edition.specs.Edition.{known}
 use Rattle.encoder.specs.declared.Encoder.{Encoder}
 use Rattle.pwm.specs.declared.Pwm.{Pwm}

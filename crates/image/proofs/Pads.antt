@@ -9,7 +9,7 @@ use lib.ListN.{length, take, drop, getD, replicate, length-drop, length-append, 
 use lib.Seq.{ext-getD, getD-drop, length-take-le, take-at, getD-append-add}
 use lib.Dec.{ltb, eqb}
 use borrow.Author.Tests.{lt-ltb, le-ltb, ltb-true, ltb-false, eqb-true}
-use Rattle.wire.specs.Bytes.{byte}
+use Rattle.numbers.specs.Bytes.{byte}
 use Rattle.codec.specs.How.{loadMany, okMany}
 use Rattle.codec.proofs.Each.{byte-many, many-each, each-many}
 use Rattle.image.specs.How.{isCarried}

@@ -10,7 +10,7 @@ use lib.Seq.{ext-getD, getD-take, getD-drop, length-take-le, take-take}
 use lib.Dec.{leb}
 use borrow.Author.Tests.{le-leb, leb-true}
 use Rattle.laws.proofs.Truth.{both-true}
-use Rattle.wire.specs.Bytes.{byte, leOf}
+use Rattle.numbers.specs.Bytes.{byte, leOf}
 use Rattle.codec.specs.How.{okWord, loadMany, okMany}
 use Rattle.codec.proofs.Many.{both}
 use Rattle.codec.proofs.Each.{byte-many, length-many}

@@ -11,7 +11,7 @@ use native.Mathlib.Numerals.{add-one}
 use lib.Seq.{sets, length-sets, length-take-le, take-suc, take-all}
 use lib.Dec.{ltb, eqb}
 use Rattle.laws.proofs.Each.{long-field}
-use Rattle.wire.specs.Bytes.{byte, leOf, leBytes}
+use Rattle.numbers.specs.Bytes.{byte, leOf, leBytes}
 use Rattle.codec.specs.How.{saveWord, loadWord, okWord, saveMany, loadMany, okMany}
 use Rattle.codec.proofs.Loops.{loaded, loaded-none, loaded-more, loaded-all, tested-none, tested-more, saved, saved-none, saved-more, saved-all, sets-append}
 use Rattle.encoder.specs.declared.Encoder.{Encoder}

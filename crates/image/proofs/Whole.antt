@@ -9,7 +9,7 @@ use lib.ListN.{length, take, drop, length-append, take-append-drop}
 use lib.Seq.{sets, sets-eq, length-take-le}
 use lib.Dec.{ltb}
 use borrow.Author.Tests.{le-leb, lt-leb}
-use Rattle.wire.specs.Bytes.{byte, leOf, leBytes}
+use Rattle.numbers.specs.Bytes.{byte, leOf, leBytes}
 use Rattle.codec.specs.How.{Bytes, saveWord, loadWord, okWord, saveMany, loadMany, okMany, Each}
 use Rattle.codec.proofs.Loops.{sets-append, many-long}
 use Rattle.codec.proofs.Each.{length-many}

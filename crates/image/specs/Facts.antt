@@ -3,7 +3,7 @@
 use Prim.Native.Nat.{ℕ, _<_}
 use mathlib.Core.Path.{_≡_}
 use lib.ListN.{length}
-use Rattle.wire.specs.Bytes.{byte}
+use Rattle.numbers.specs.Bytes.{byte}
 use Rattle.live.specs.Live.{Live}
 use Rattle.image.specs.Image.{size, imageOf, Fits}
 

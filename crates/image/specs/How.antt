@@ -7,7 +7,7 @@ use mathlib.Core.List.{List, [], _∷_, _++_, map, flatten}
 use mathlib.Core.Bool.{Bool, _&&_, _||_}
 use lib.ListN.{length, take, drop, replicate}
 use lib.Dec.{eqb, ltb, leb}
-use Rattle.wire.specs.Bytes.{byte, leOf, leBytes}
+use Rattle.numbers.specs.Bytes.{byte, leOf, leBytes}
 use Rattle.edition.specs.Edition.{known}
 use Rattle.pwm.specs.declared.Pwm.{Pwm}
 use Rattle.bank.specs.declared.Bank.{Bank}

@@ -9,7 +9,7 @@ use mathlib.Core.List.{List, _∷_, _++_, map, flatten}
 use mathlib.Core.Bool.{true, cond, _&&_, _||_}
 use lib.ListN.{length, take, replicate}
 use lib.Dec.{eqb, leb}
-use Rattle.wire.specs.Bytes.{byte, leBytes}
+use Rattle.numbers.specs.Bytes.{byte, leBytes}
 use Rattle.edition.specs.Edition.{known}
 use Rattle.bank.specs.declared.Bank.{Bank}
 use Rattle.bank.specs.Bank.{encoderAt, pwmAt}

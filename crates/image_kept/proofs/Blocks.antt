@@ -6,7 +6,7 @@ use Prim.Native.Nat.{ℕ, zero, suc, _+_, _-_, _<_}
 use native.Mathlib.Omega.{arith}
 use lib.Dec.{ltb, leb, eqb}
 use borrow.Author.Tests.{ltb-true, leb-false}
-use Rattle.wire.specs.Record.{pwmRange, i2cRange}
+use Rattle.records.specs.Record.{pwmRange, i2cRange}
 use Rattle.encoder.specs.declared.Encoder.{Encoder}
 use Rattle.encoder.specs.Encoder as encoder
 use Rattle.encoder.proofs.Counting.{after-pins, pins-cnfg, pins-count, cnfg-count, stat-six, pins-stat}

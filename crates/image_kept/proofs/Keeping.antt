@@ -15,9 +15,9 @@ use Rattle.fold.specs.Run.{Course, going, stopped, runOf}
 use Rattle.fold.specs.Output.{numberOf}
 use Rattle.fold.proofs.Laws.{keeps, stopped-by}
 use Rattle.edition.specs.declared.Edition.{Edition}
-use Rattle.wire.specs.Record.{bankOf}
-use Rattle.wire.specs.declared.Record.{Record}
-use Rattle.wire.specs.declared.Record.the-variants.{WriteSelect, WriteEncoder, WritePwm, WriteI2c, Answer, ReadSelect, ReadEncoder, ReadPwm, ReadI2c, Pins, Ticks}
+use Rattle.wire.specs.Decode.{bankOf}
+use Rattle.records.specs.declared.Record.{Record}
+use Rattle.records.specs.declared.Record.the-variants.{WriteSelect, WriteEncoder, WritePwm, WriteI2c, Answer, ReadSelect, ReadEncoder, ReadPwm, ReadI2c, Pins, Ticks}
 use Rattle.wire.proofs.Formed.{Formed, formed, bank-formed, refused-by}
 use Rattle.encoder.specs.declared.Encoder.{Encoder}
 use Rattle.encoder.specs.Encoder as encoder

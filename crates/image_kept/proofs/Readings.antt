@@ -13,9 +13,9 @@ use Rattle.fold.specs.Run.{runOf}
 use Rattle.fold.proofs.Turns.{lift-given}
 use Rattle.fold.proofs.Runs.{every-run}
 use Rattle.edition.specs.declared.Edition.{Edition}
-use Rattle.wire.specs.Record.{bankOf}
-use Rattle.wire.specs.declared.Record.{Record}
-use Rattle.wire.specs.declared.Record.the-variants.{WriteSelect, WriteEncoder, WritePwm, WriteI2c, Answer, ReadSelect, ReadEncoder, ReadPwm, ReadI2c, Pins, Ticks}
+use Rattle.wire.specs.Decode.{bankOf}
+use Rattle.records.specs.declared.Record.{Record}
+use Rattle.records.specs.declared.Record.the-variants.{WriteSelect, WriteEncoder, WritePwm, WriteI2c, Answer, ReadSelect, ReadEncoder, ReadPwm, ReadI2c, Pins, Ticks}
 use Rattle.wire.proofs.Formed.{bank-formed}
 use Rattle.encoder.specs.declared.Encoder.{Encoder}
 use Rattle.encoder.specs.Count.{pattern}

@@ -9,10 +9,10 @@ use lib.ListN.{length, getD}
 use Rattle.fold.specs.Run.{halted}
 use Rattle.fold.specs.Output.{over, outputOf}
 use Rattle.edition.specs.declared.Edition.{Edition}
-use Rattle.wire.specs.Bytes.{readsIn}
-use Rattle.wire.specs.Trailer.{trailerOf}
-use Rattle.wire.specs.declared.Trailer.{Trailer}
-use Rattle.wire.specs.declared.Trailer.the-variants.{Found, Refused as NoTrailer}
+use Rattle.wire.specs.Decode.{readsIn}
+use Rattle.trailer.specs.Trailer.{trailerOf}
+use Rattle.trailer.specs.declared.Trailer.{Trailer}
+use Rattle.trailer.specs.declared.Trailer.the-variants.{Found, Refused as NoTrailer}
 use Rattle.banks.specs.State.{fresh}
 use Rattle.replay.specs.Replay.{played, playOf, replayFrom, replayOf}
 use Rattle.replay.proofs.Bytes.{reading-there}

@@ -19,7 +19,7 @@ use Rattle.i2c.specs.declared.Phase.{Phase}
 use Rattle.i2c.specs.declared.Phase.the-variants.{Idle, TxIdle, RxIdle}
 use Rattle.i2c.specs.declared.I2c.{I2c}
 use Rattle.i2c.specs.I2c.{stateOf}
-use Rattle.wire.specs.Record.{pwmCnfg}
+use Rattle.records.specs.Record.{pwmCnfg}
 use Rattle.pwm.specs.declared.Registers.{Registers}
 use Rattle.pwm.specs.declared.Wave.{Wave}
 use Rattle.image_words.specs.Words.{FitsI2c, FitsEncoder}

@@ -7,7 +7,7 @@ use native.Mathlib.Omega.{arith}
 use native.Mathlib.Nat.{pow-suc, zero-add, suc-add, div-lt-iff-lt-mul}
 use Rattle.bits.specs.Bits.{num}
 use Rattle.fold.specs.Output.{bytesOf}
-use Rattle.wire.specs.Bytes.{leBytes}
+use Rattle.numbers.specs.Bytes.{leBytes}
 use Rattle.encoder.specs.Count.{pattern}
 use Rattle.encoder.specs.declared.Encoder.{Encoder}
 use Rattle.encoder.proofs.Wrap.{pattern-lt}

@@ -12,7 +12,7 @@ use Rattle.laws.proofs.Truth.{both-true}
 use Rattle.laws.proofs.Table.{at}
 use Rattle.divider.specs.Divider.{dividerOf}
 use Rattle.bits.specs.Bits.{bit}
-use Rattle.wire.specs.Record.{pwmCnfg}
+use Rattle.records.specs.Record.{pwmCnfg}
 use Rattle.encoder.specs.Count.{pattern, signed}
 use Rattle.encoder.specs.declared.Encoder.{Encoder}
 use Rattle.encoder.proofs.Wrap.{pattern-lt}

@@ -4,7 +4,7 @@ use Prim.Native.Nat.{ℕ, _+_, _*_, _-_, _/_, _%_, _^_}
 use mathlib.Core.Bool.{Bool, cond, _&&_}
 use lib.Dec.{eqb, ltb, leb}
 use Rattle.bits.specs.Bits.{bit, num}
-use Rattle.wire.specs.Record.{pwmCnfg}
+use Rattle.records.specs.Record.{pwmCnfg}
 use Rattle.divider.specs.Divider.{dividerOf}
 use Rattle.encoder.specs.Count.{pattern, signed}
 use Rattle.encoder.specs.declared.Encoder.{Encoder}

@@ -7,8 +7,8 @@ use mathlib.Core.List.{List, [], _∷_, _++_}
 use lib.Signed.{mag}
 use Rattle.bits.specs.Bits.{num}
 use Rattle.fold.specs.Output.{bytesOf}
-use Rattle.wire.specs.Bytes.{leBytes}
-use Rattle.wire.specs.Record.{pwmCnfg}
+use Rattle.numbers.specs.Bytes.{leBytes}
+use Rattle.records.specs.Record.{pwmCnfg}
 use Rattle.encoder.specs.Count.{pattern}
 use Rattle.encoder.specs.declared.Encoder.{Encoder}
 use Rattle.pwm.specs.declared.Pwm.{Pwm}

@@ -10,9 +10,9 @@ use native.Mathlib.Decide.{ℕ-discrete}
 use lib.ListN.{length, take}
 use lib.Seq.{take-all}
 use Rattle.fold.specs.Run.{Course, going, stopped, tally}
-use Rattle.wire.specs.Bytes.{asks, readsIn}
-use Rattle.wire.specs.Trailer.{recordsOf}
-use Rattle.wire.proofs.Laws.{few-records}
+use Rattle.wire.specs.Decode.{asks, readsIn}
+use Rattle.trailer.specs.Trailer.{recordsOf}
+use Rattle.trailer.proofs.Laws.{few-records}
 use Rattle.replay.specs.Replay.{replayed}
 use Rattle.judge.specs.Judge.{plain, opposite, Judged, refused, other-length, same, negated, both, different}
 use Rattle.judge.specs.How.{Agree}

@@ -16,10 +16,12 @@ use Rattle.laws.proofs.Truth.{both-true}
 use Rattle.fold.specs.Run.{tally}
 use Rattle.fold.proofs.Laws.{tally-cut}
 use Rattle.fold.proofs.Places.{between, placed, places-next, records-placed}
-use Rattle.wire.specs.Bytes.{byte, leOf, asks, readsIn}
-use Rattle.wire.specs.Trailer.{recordsAt, recordsOf}
-use Rattle.wire.specs.declared.Trailer.{Trailer}
-use Rattle.wire.proofs.Laws.{first-byte, ends}
+use Rattle.numbers.specs.Bytes.{byte, leOf}
+use Rattle.wire.specs.Decode.{asks, readsIn}
+use Rattle.trailer.specs.Trailer.{recordsAt, recordsOf}
+use Rattle.trailer.specs.declared.Trailer.{Trailer}
+use Rattle.wire.proofs.Laws.{first-byte}
+use Rattle.trailer.proofs.Laws.{ends}
 use Rattle.judge.specs.declared.Verdict.{Verdict}
 use Rattle.judge.specs.declared.Verdict.the-variants.{Negated, Both}
 use Rattle.judge.specs.Judge.{neg, ofCntr, plain, opposite, same, negated, both, different, Answer}

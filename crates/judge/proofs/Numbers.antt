@@ -9,8 +9,8 @@ use lib.Seq.{getD-take, take-add, take-take}
 use mir.Syntax.{w8}
 use mir.Val.{Fits}
 use Rattle.fold.specs.Output.{bytesOf}
-use Rattle.wire.specs.Bytes.{leOf, leBytes}
-use Rattle.wire.proofs.Numbers.{le-bytes, bytes-le, le-behind}
+use Rattle.numbers.specs.Bytes.{leOf, leBytes}
+use Rattle.numbers.proofs.Numbers.{le-bytes, bytes-le, le-behind}
 use Rattle.judge.specs.How.{Agree}
 
 abbrev pub Bytes : List ℕ → Type 0

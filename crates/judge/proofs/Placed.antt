@@ -12,8 +12,9 @@ use Rattle.fold.proofs.Turns.{retell-applies, retell-given, retell-leaves}
 use Rattle.fold.proofs.Runs.{halts, first-applied, first-refused, every-run}
 use Rattle.fold.proofs.Laws.{room-exact, first-goes, rest-goes, rest-readings}
 use Rattle.fold.proofs.Written.{length-bytes}
-use Rattle.wire.specs.Bytes.{leOf, leBytes, asks, readsIn}
-use Rattle.wire.specs.Trailer.{recordsOf, editionIn}
+use Rattle.numbers.specs.Bytes.{leOf, leBytes}
+use Rattle.wire.specs.Decode.{asks, readsIn}
+use Rattle.trailer.specs.Trailer.{recordsOf, editionIn}
 use Rattle.banks.specs.declared.State.{State}
 use Rattle.banks.specs.State.{fresh}
 use Rattle.replay.specs.Replay.{played, replayed}

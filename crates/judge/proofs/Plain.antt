@@ -8,7 +8,7 @@ use native.Mathlib.Numerals.{lt-of-le-of-ne}
 use lib.ListN.{length, getD}
 use mir.Syntax.{w8}
 use mir.Val.{Fits}
-use Rattle.wire.specs.Bytes.{leOf}
+use Rattle.numbers.specs.Bytes.{leOf}
 use Rattle.judge.specs.declared.Verdict.the-variants.{Same, Different}
 use Rattle.judge.specs.How.{Agree, Plainly, all, until}
 use Rattle.judge.proofs.Numbers.{in-slice, one-more, the-next}

@@ -10,11 +10,11 @@ use Rattle.fold.specs.Run.{Run, going, stopped, runOf}
 use Rattle.fold.specs.Turn.{Turn}
 use Rattle.fold.specs.Output.{bytesOf}
 use lib.ListN.{length}
-use Rattle.wire.specs.Bytes.{leOf, leBytes}
-use Rattle.wire.specs.Trailer.{trailerOf, recordsOf, editionIn}
-use Rattle.wire.specs.declared.Trailer.{Trailer}
-use Rattle.wire.specs.declared.Trailer.the-variants.{Found, Refused}
-use Rattle.wire.proofs.Laws.{one-to-five}
+use Rattle.numbers.specs.Bytes.{leOf, leBytes}
+use Rattle.trailer.specs.Trailer.{trailerOf, recordsOf, editionIn}
+use Rattle.trailer.specs.declared.Trailer.{Trailer}
+use Rattle.trailer.specs.declared.Trailer.the-variants.{Found, Refused}
+use Rattle.trailer.proofs.Laws.{one-to-five}
 use Rattle.banks.specs.declared.State.{State}
 use Rattle.banks.specs.State.{fresh}
 use Rattle.replay.specs.Replay.{replayFrom, replayOf, replayed}

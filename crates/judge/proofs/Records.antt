@@ -10,10 +10,11 @@ use borrow.Author.Tests.{eqb-true}
 use Rattle.edition.specs.declared.Edition.{Edition}
 use Rattle.laws.proofs.Truth.{both-true}
 use Rattle.fold.specs.Turn.{Turn, reads, applies, answers}
-use Rattle.wire.specs.Bytes.{byte, asks}
-use Rattle.wire.specs.Record.{bankOf}
-use Rattle.wire.specs.declared.Record.{Record}
-use Rattle.wire.specs.declared.Record.the-variants.{WriteSelect, WriteEncoder, WritePwm, WriteI2c, Answer, ReadSelect, ReadEncoder, ReadPwm, ReadI2c, Pins, Ticks}
+use Rattle.numbers.specs.Bytes.{byte}
+use Rattle.wire.specs.Decode.{asks}
+use Rattle.wire.specs.Decode.{bankOf}
+use Rattle.records.specs.declared.Record.{Record}
+use Rattle.records.specs.declared.Record.the-variants.{WriteSelect, WriteEncoder, WritePwm, WriteI2c, Answer, ReadSelect, ReadEncoder, ReadPwm, ReadI2c, Pins, Ticks}
 use Rattle.wire.proofs.Formed.{Formed, formed}
 use Rattle.wire.proofs.Known.{isRead, reads-ask}
 use Rattle.encoder.specs.Encoder.{registerOf}

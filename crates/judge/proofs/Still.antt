@@ -14,8 +14,9 @@ use Rattle.fold.specs.Run.{Run, going, resumed, runOf}
 use Rattle.fold.proofs.Turns.{retell-applies, retell-leaves}
 use Rattle.fold.proofs.Runs.{first-applied, every-going}
 use Rattle.fold.specs.Output.{bytesOf}
-use Rattle.wire.specs.Bytes.{leOf, leBytes, readsIn}
-use Rattle.wire.specs.Trailer.{recordsOf, editionIn}
+use Rattle.numbers.specs.Bytes.{leOf, leBytes}
+use Rattle.wire.specs.Decode.{readsIn}
+use Rattle.trailer.specs.Trailer.{recordsOf, editionIn}
 use Rattle.banks.specs.declared.State.{State}
 use Rattle.banks.specs.State.{fresh}
 use Rattle.replay.specs.Replay.{played, replayed}

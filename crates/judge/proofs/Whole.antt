@@ -13,11 +13,11 @@ use Rattle.fold.specs.Run.{Run, Course, going, stopped}
 use Rattle.fold.specs.Output.{numberOf, bytesOf, over, stopOf, outputOf}
 use Rattle.fold.specs.declared.Stop.{Stop}
 use Rattle.fold.proofs.Written.{length-bytes}
-use Rattle.wire.specs.Bytes.{leBytes}
-use Rattle.wire.specs.Trailer.{trailerOf, recordsOf, editionIn}
-use Rattle.wire.specs.declared.Trailer.{Trailer}
-use Rattle.wire.specs.declared.Trailer.the-variants.{Found, Refused as NoTrailer}
-use Rattle.wire.proofs.Laws.{found-within}
+use Rattle.numbers.specs.Bytes.{leBytes}
+use Rattle.trailer.specs.Trailer.{trailerOf, recordsOf, editionIn}
+use Rattle.trailer.specs.declared.Trailer.{Trailer}
+use Rattle.trailer.specs.declared.Trailer.the-variants.{Found, Refused as NoTrailer}
+use Rattle.trailer.proofs.Laws.{found-within}
 use Rattle.banks.specs.declared.State.{State}
 use Rattle.replay.specs.Replay.{played, replayFrom, replayOf, replayed}
 use Rattle.walk.specs.Turn.{written}

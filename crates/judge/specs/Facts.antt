@@ -8,7 +8,7 @@ use mathlib.Core.Bool.{true}
 use Rattle.edition.specs.declared.Edition.{Edition}
 use Rattle.fold.specs.Turn.{reads}
 use Rattle.fold.specs.Run.{going, stopped}
-use Rattle.wire.specs.Trailer.{recordsOf, editionIn}
+use Rattle.trailer.specs.Trailer.{recordsOf, editionIn}
 use Rattle.replay.specs.Replay.{played, replayed}
 use Rattle.walk.specs.Turn.{turnOf}
 use Rattle.judge.specs.Judge.{ofCntr, plain, Judged}

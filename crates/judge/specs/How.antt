@@ -7,11 +7,11 @@ use lib.ListN.{length, take}
 use Rattle.fold.specs.Turn.{Turn}
 use Rattle.fold.specs.Run.{going, runOf}
 use Rattle.fold.specs.Output.{bytesOf}
-use Rattle.wire.specs.Bytes.{leBytes}
+use Rattle.numbers.specs.Bytes.{leBytes}
 use Rattle.banks.specs.declared.State.{State}
 use Rattle.banks.specs.State.{fresh}
-use Rattle.wire.specs.Trailer.{trailerOf, recordsOf}
-use Rattle.wire.specs.declared.Trailer.the-variants.{Found}
+use Rattle.trailer.specs.Trailer.{trailerOf, recordsOf}
+use Rattle.trailer.specs.declared.Trailer.the-variants.{Found}
 use Rattle.replay.specs.Replay.{replayed}
 use Rattle.judge.specs.Judge.{plain}
 use Rattle.judge.specs.declared.Verdict.{Verdict}

@@ -9,8 +9,8 @@ use lib.Dec.{eqb}
 use Rattle.fold.specs.Turn.{Turn, retell}
 use Rattle.fold.specs.Run.{going, stopped, runOf}
 use Rattle.fold.specs.Output.{bytesOf}
-use Rattle.wire.specs.Bytes.{byte, leBytes}
-use Rattle.wire.specs.Trailer.{recordsOf, editionIn}
+use Rattle.numbers.specs.Bytes.{byte, leBytes}
+use Rattle.trailer.specs.Trailer.{recordsOf, editionIn}
 use Rattle.banks.specs.declared.State.{State}
 use Rattle.banks.specs.State.{fresh}
 use Rattle.replay.specs.Replay.{played, replayed}

@@ -1,5 +1,5 @@
 // Judges a transcript, readings of 8 bytes each in log order, by the replay of a log.
-use wire::Trailer;
+use trailer::Trailer;
 ghost use mathlib.Core.Path.{_≡_};
 ghost use mathlib.Core.Bool.{cond, _&&_};
 ghost use Prim.Native.Nat.{_≤_};
@@ -43,8 +43,8 @@ fn plainly(transcript: &[u8], out: &[u8]) -> Verdict
         }
         let i = next;
         next += 1;
-        let t = wire::le64(transcript, 8 * i);
-        let v = wire::le64(out, 8 * i);
+        let t = numbers::le64(transcript, 8 * i);
+        let v = numbers::le64(out, 8 * i);
         if t != v {
             break Verdict::Different(i);
         }
@@ -73,8 +73,8 @@ fn compare(log: &[u8], start: usize, out: &[u8], transcript: &[u8]) -> Verdict
             continue;
         }
         if is_cntr(log[at + 1], log[at + 3]) {
-            let t = wire::le64(transcript, 8 * j);
-            let v = wire::le64(out, 8 * j);
+            let t = numbers::le64(transcript, 8 * j);
+            let v = numbers::le64(out, 8 * j);
             let w = negate(v);
             if t != w {
                 break plainly(transcript, out);
@@ -84,8 +84,8 @@ fn compare(log: &[u8], start: usize, out: &[u8], transcript: &[u8]) -> Verdict
             j += 1;
             continue;
         }
-        let t = wire::le64(transcript, 8 * j);
-        let v = wire::le64(out, 8 * j);
+        let t = numbers::le64(transcript, 8 * j);
+        let v = numbers::le64(out, 8 * j);
         if t != v {
             break plainly(transcript, out);
         }
@@ -123,7 +123,7 @@ pub fn judge(log: &[u8], transcript: &[u8]) -> Verdict
     if number != 0 {
         return Verdict::Refused(number);
     }
-    match wire::find(log) {
+    match trailer::find(log) {
         Trailer::Refused(n) => Verdict::Refused(n),
         Trailer::Found(start, _, _) => compare(log, start, &out, transcript),
     }

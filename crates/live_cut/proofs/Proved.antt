@@ -15,10 +15,10 @@ use Rattle.fold.specs.Device.{records}
 use Rattle.fold.specs.Stream.{wholes, leftOver}
 use Rattle.fold.proofs.Streams.{records-front}
 use Rattle.edition.specs.Edition.{editionOf}
-use Rattle.wire.specs.Trailer.{trailerOf, recordsAt, editionAt}
-use Rattle.wire.specs.declared.Trailer.{Trailer}
-use Rattle.wire.specs.declared.Trailer.the-variants.{Found}
-use Rattle.wire.proofs.Laws.{ends}
+use Rattle.trailer.specs.Trailer.{trailerOf, recordsAt, editionAt}
+use Rattle.trailer.specs.declared.Trailer.{Trailer}
+use Rattle.trailer.specs.declared.Trailer.the-variants.{Found}
+use Rattle.trailer.proofs.Laws.{ends}
 use Rattle.bank.specs.Bank.{encoderAt}
 use Rattle.banks.specs.declared.State.{State}
 use Rattle.banks.specs.State.{bankAt}

@@ -9,9 +9,9 @@ use lib.ListN.{length, take, drop}
 use Rattle.fold.specs.Output.{numberOf}
 use Rattle.fold.specs.Stream.{wholes}
 use Rattle.edition.specs.Edition.{editionOf}
-use Rattle.wire.specs.Bytes.{readsIn}
-use Rattle.wire.specs.Trailer.{trailerOf, recordsOf}
-use Rattle.wire.specs.declared.Trailer.the-variants.{Found}
+use Rattle.wire.specs.Decode.{readsIn}
+use Rattle.trailer.specs.Trailer.{trailerOf, recordsOf}
+use Rattle.trailer.specs.declared.Trailer.the-variants.{Found}
 use Rattle.bank.specs.Bank.{encoderAt}
 use Rattle.banks.specs.State.{bankAt}
 use Rattle.replay.specs.Replay.{replayOf}

@@ -1,5 +1,5 @@
 // What is made of a log that replays, in a lent buffer: its dump, the smaller log.
-use wire::Trailer;
+use trailer::Trailer;
 ghost use mathlib.Core.Path.{_≡_};
 ghost use lib.ListN.{length};
 ghost use Rattle.made.specs.How.{sourceOf, handedOf, handedIn};
@@ -36,7 +36,7 @@ pub fn source_of(log: &[u8]) -> Source
             index: stop.applied,
         };
     }
-    match wire::find(log) {
+    match trailer::find(log) {
         Trailer::Refused(number) => Source::Refused {
             number: number,
             index: 0,

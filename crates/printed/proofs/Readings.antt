@@ -6,8 +6,8 @@ use native.Mathlib.Omega.{arith}
 use lib.ListN.{length, getD}
 use Rattle.fold.specs.Output.{bytesOf}
 use Rattle.fold.proofs.Written.{length-bytes}
-use Rattle.wire.specs.Bytes.{leBytes}
-use Rattle.wire.proofs.Numbers.{le-bytes}
+use Rattle.numbers.specs.Bytes.{leBytes}
+use Rattle.numbers.proofs.Numbers.{le-bytes}
 use Rattle.text.specs.Text.{numbersIn, readingsIn}
 
 pub long-bytes : (vs : List ℕ) → length (bytesOf (leBytes 8) vs) ≡ 8 * length vs

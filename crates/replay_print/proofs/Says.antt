@@ -6,7 +6,7 @@ use native.Mathlib.Omega.{arith}
 use lib.ListN.{length, take, drop}
 use lib.Seq.{take-at}
 use Rattle.decimal.specs.Put.{Put}
-use Rattle.wire.specs.Bytes.{leBytes}
+use Rattle.numbers.specs.Bytes.{leBytes}
 use Rattle.fold.specs.declared.Stop.{Stop}
 use Rattle.fold.specs.Output.{numberOf, bytesOf, over, stopOf, outputOf}
 use Rattle.replay.specs.Replay.{replayOf}

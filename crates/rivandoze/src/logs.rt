@@ -4,7 +4,7 @@ ghost use Prim.Native.Nat.{_<_, _/_, _%_, _^_};
 ghost use mathlib.Core.Path.{_≡_};
 ghost use lib.ListN.{length};
 ghost use Rattle.fold.specs.Output.{numberOf, bytesOf, over};
-ghost use Rattle.wire.specs.Bytes.{leBytes};
+ghost use Rattle.numbers.specs.Bytes.{leBytes};
 ghost use Rattle.walk.specs.Turn.{written};
 ghost use Rattle.replay.specs.Replay.{replayOf};
 ghost use Rattle.made.specs.Made.{madeOf, outputOf as made-output};

@@ -9,7 +9,7 @@ use mathlib.Core.List.{List, [], _∷_, _++_}
 use lib.Dec.{eqb}
 use borrow.Author.Tests.{eqb-true, eq-eqb, not-true}
 use Rattle.laws.proofs.Truth.{both-true}
-use Rattle.wire.specs.Bytes.{leOf}
+use Rattle.numbers.specs.Bytes.{leOf}
 use Rattle.travel.specs.Stretch.{names}
 use Rattle.shrink.specs.Shrink.{shows}
 use Rattle.shrink.specs.How.{writes}

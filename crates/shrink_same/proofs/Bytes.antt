@@ -9,9 +9,9 @@ use lib.Seq.{take-append-seam, drop-append-seam}
 use borrow.Author.Tests.{not-false}
 use Rattle.fold.specs.Device.{records}
 use Rattle.edition.specs.Edition.{known}
-use Rattle.wire.specs.Trailer.{trailerOf, recordsAt, recordsOf}
-use Rattle.wire.specs.declared.Trailer.{Trailer}
-use Rattle.wire.specs.declared.Trailer.the-variants.{Found, Refused}
+use Rattle.trailer.specs.Trailer.{trailerOf, recordsAt, recordsOf}
+use Rattle.trailer.specs.declared.Trailer.{Trailer}
+use Rattle.trailer.specs.declared.Trailer.the-variants.{Found, Refused}
 use Rattle.writer.specs.Writer.{logOf}
 use Rattle.writer.specs.How.{trailer}
 use Rattle.writer.proofs.Back.{trailer-back}

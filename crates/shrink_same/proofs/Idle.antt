@@ -11,11 +11,11 @@ use Rattle.laws.proofs.Truth.{both-true}
 use Rattle.fold.specs.Turn.{Turn, goes, refused, lift, applies, leaves}
 use Rattle.fold.proofs.Shrinks.{Safe}
 use Rattle.edition.specs.declared.Edition.{Edition}
-use Rattle.wire.specs.Bytes.{byte, leOf}
-use Rattle.wire.specs.Record.{bankOf, decodeOf}
-use Rattle.wire.specs.declared.Record.{Record}
-use Rattle.wire.specs.declared.Record.the-variants.{WriteSelect, WriteEncoder, WritePwm, WriteI2c, Answer, ReadSelect, ReadEncoder, ReadPwm, ReadI2c, Pins, Ticks}
-use Rattle.wire.specs.declared.Decoded.the-variants.{Names}
+use Rattle.numbers.specs.Bytes.{byte, leOf}
+use Rattle.wire.specs.Decode.{bankOf, decodeOf}
+use Rattle.records.specs.declared.Record.{Record}
+use Rattle.records.specs.declared.Record.the-variants.{WriteSelect, WriteEncoder, WritePwm, WriteI2c, Answer, ReadSelect, ReadEncoder, ReadPwm, ReadI2c, Pins, Ticks}
+use Rattle.records.specs.declared.Decoded.the-variants.{Names}
 use Rattle.wire.proofs.Formed.{Formed}
 use Rattle.wire.proofs.Known.{ticks-named}
 use Rattle.encoder.specs.declared.Encoder.{Encoder}

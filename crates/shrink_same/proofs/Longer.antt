@@ -13,10 +13,10 @@ use Rattle.fold.proofs.Runs.{goes-applies}
 use Rattle.edition.specs.declared.Edition.{Edition}
 use Rattle.encoder.specs.Encoder.{countsInQuadrature}
 use Rattle.encoder.proofs.Counting.{pins-cnfg}
-use Rattle.wire.specs.Bytes.{byte, leOf}
-use Rattle.wire.specs.Record.{bankOf, decodeOf}
-use Rattle.wire.specs.declared.Decoded.the-variants.{Names}
-use Rattle.wire.specs.declared.Record.the-variants.{Pins}
+use Rattle.numbers.specs.Bytes.{byte, leOf}
+use Rattle.wire.specs.Decode.{bankOf, decodeOf}
+use Rattle.records.specs.declared.Decoded.the-variants.{Names}
+use Rattle.records.specs.declared.Record.the-variants.{Pins}
 use Rattle.wire.proofs.Formed.{formed, bank-formed}
 use Rattle.banks.specs.declared.State.{State}
 use Rattle.banks.specs.State.{fresh}

@@ -13,11 +13,11 @@ use Rattle.fold.specs.Shrink as fold
 use Rattle.fold.proofs.Laws as laws
 use Rattle.fold.proofs.Runs.{halts}
 use Rattle.edition.specs.declared.Edition.{Edition}
-use Rattle.wire.specs.Bytes.{readsIn}
-use Rattle.wire.specs.Trailer.{trailerOf, recordsAt, recordsOf, editionAt, editionIn}
-use Rattle.wire.specs.declared.Trailer.{Trailer}
-use Rattle.wire.specs.declared.Trailer.the-variants.{Found, Refused}
-use Rattle.wire.proofs.Laws.{ends}
+use Rattle.wire.specs.Decode.{readsIn}
+use Rattle.trailer.specs.Trailer.{trailerOf, recordsAt, recordsOf, editionAt, editionIn}
+use Rattle.trailer.specs.declared.Trailer.{Trailer}
+use Rattle.trailer.specs.declared.Trailer.the-variants.{Found, Refused}
+use Rattle.trailer.proofs.Laws.{ends}
 use Rattle.banks.specs.declared.State.{State}
 use Rattle.banks.specs.State.{fresh}
 use Rattle.edition.specs.Edition.{editionOf}

@@ -14,8 +14,9 @@ use Rattle.fold.specs.Run.{going, under}
 use Rattle.fold.specs.Shrink as fold
 use Rattle.fold.proofs.Shrinks as shrinks
 use Rattle.edition.specs.declared.Edition.{Edition}
-use Rattle.wire.specs.Bytes.{byte, leOf, asks, readsIn}
-use Rattle.wire.specs.Record.{bankOf}
+use Rattle.numbers.specs.Bytes.{byte, leOf}
+use Rattle.wire.specs.Decode.{asks, readsIn}
+use Rattle.wire.specs.Decode.{bankOf}
 use Rattle.encoder.specs.Encoder.{place, places}
 use Rattle.shaft.specs.Shaft.{stepOf, steps, doubles}
 use Rattle.banks.specs.State.{fresh}

@@ -4,8 +4,8 @@ use mathlib.Core.Path.{_≡_}
 use mathlib.Core.List.{List, [], _∷_, _++_}
 use lib.ListN.{length, take}
 use Rattle.fold.specs.Run.{going, under}
-use Rattle.wire.specs.Trailer.{trailerOf, recordsOf, editionIn}
-use Rattle.wire.specs.declared.Trailer.the-variants.{Found}
+use Rattle.trailer.specs.Trailer.{trailerOf, recordsOf, editionIn}
+use Rattle.trailer.specs.declared.Trailer.the-variants.{Found}
 use Rattle.replay.specs.Replay.{replayOf}
 use Rattle.shaft.specs.Shaft.{doubles, steps}
 use Rattle.travel.specs.Stretch.{pinsIn, Stretch}

@@ -16,8 +16,8 @@ use Rattle.fold.specs.Output.{numberOf, stopOf}
 use Rattle.fold.specs.declared.Stop.{Stop}
 use Rattle.replay.specs.Replay.{replayOf}
 use Rattle.form.specs.Form.{formText}
-use Rattle.wire.specs.Trailer.{recordsOf}
-use Rattle.wire.proofs.Laws.{few-records}
+use Rattle.trailer.specs.Trailer.{recordsOf}
+use Rattle.trailer.proofs.Laws.{few-records}
 use Rattle.sign.specs.Sign.{stretchesOf, pinsRecords, signOf, signedOf, signOutput}
 use Rattle.sign.specs.declared.Signed.{Signed}
 use Rattle.sign.proofs.Fine.{log-fine}

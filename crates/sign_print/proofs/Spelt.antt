@@ -18,7 +18,7 @@ use Rattle.form.specs.Form.{signOf, pluralOf, formText}
 use Rattle.fold.specs.Output.{over}
 use Rattle.shaft.specs.Shaft.{forward, backward, still}
 use Rattle.text.specs.Text.{line}
-use Rattle.wire.specs.Bytes.{leOf, leBytes}
+use Rattle.numbers.specs.Bytes.{leOf, leBytes}
 use Rattle.sign.specs.Sign.{Entry, entryBytes, listing, complement, Verdict, settled, unsettled, verdictOf, verdictNumber}
 use Rattle.sign.specs.Facts.{Each}
 use Rattle.sign.proofs.Fine.{Fine}

@@ -12,7 +12,7 @@ use Rattle.decimal.specs.Put.{Put}
 use Rattle.decimal.proofs.Puts.{put-then}
 use Rattle.form.specs.Form.{pluralOf, formText}
 use Rattle.text.specs.Text.{line, stopText}
-use Rattle.wire.specs.Bytes.{leOf}
+use Rattle.numbers.specs.Bytes.{leOf}
 use Rattle.sign_print.specs.How.{wholeOf, stretchForm, numbersOf, verdictWords, wordsAt, numberedText, spelt, speltAt}
 
 module _ (n : ℕ) where

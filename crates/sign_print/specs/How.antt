@@ -11,7 +11,7 @@ use lib.ListN.{length, getD}
 use Rattle.decimal.specs.Ascii.{ascii}
 use Rattle.form.specs.Form.{formText}
 use Rattle.text.specs.Text.{line}
-use Rattle.wire.specs.Bytes.{leOf}
+use Rattle.numbers.specs.Bytes.{leOf}
 use Rattle.sign.specs.Sign.{stretchesOf, listing}
 use Rattle.sign_print.specs.Said.{counted}
 

@@ -110,10 +110,10 @@ fn put_entry(text: &mut [u8], at: usize, entries: &[u8], from: usize) -> usize
     requires { ⌜ There (now entries) from ⌝ }
     ensures { λ r. ⌜ Put (now (text .entry)) at (speltAt (now (entries .entry)) from) (now (text .exit)) r ⌝ }
 {
-    let names = wire::le64(entries, from);
-    let span = wire::le64(entries, from + 8);
-    let steps = wire::le64(entries, from + 16);
-    let doubles = wire::le64(entries, from + 24);
+    let names = numbers::le64(entries, from);
+    let span = numbers::le64(entries, from + 8);
+    let steps = numbers::le64(entries, from + 16);
+    let doubles = numbers::le64(entries, from + 24);
     put_stretch(text, at, names, span, steps, doubles)
 }
 

@@ -11,7 +11,7 @@ use Rattle.fold.specs.Run.{Run, runOf}
 use Rattle.fold.specs.Output.{numberOf}
 use Rattle.fold.specs.Stream.{leftOver}
 use Rattle.edition.specs.Edition.{known, editionOf}
-use Rattle.wire.specs.Bytes.{readsIn}
+use Rattle.wire.specs.Decode.{readsIn}
 use Rattle.banks.specs.declared.State.{State}
 use Rattle.walk.specs.Turn.{turnOf}
 use Rattle.live.specs.Live.{Live, Taken, freshOf, takenOf, chunkOf}

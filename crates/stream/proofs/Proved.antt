@@ -9,7 +9,7 @@ use lib.Dec.{leb}
 use lib.ListN.{length, drop}
 use lib.Seq.{take-at, getD-append-add}
 use Rattle.fold.specs.Output.{over}
-use Rattle.wire.specs.Bytes.{byte}
+use Rattle.numbers.specs.Bytes.{byte}
 use Rattle.edition.specs.Edition.{known}
 use Rattle.live.specs.Live.{Live, Taken, freshOf, chunkOf}
 use Rattle.live_cut.specs.Cut.{Lent, bytesIn, streamed}

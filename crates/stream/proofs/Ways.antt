@@ -11,7 +11,7 @@ use mir.Syntax.{w8}
 use mir.Val as val
 use Rattle.fold.specs.Output.{over}
 use Rattle.edition.specs.Edition.{known}
-use Rattle.wire.specs.Bytes.{leOf}
+use Rattle.numbers.specs.Bytes.{leOf}
 use Rattle.live.specs.Live.{Live, freshOf, chunkOf, endOf}
 use Rattle.live.specs.How.{liveOf, Good, Comes, writtenBy}
 use Rattle.live.specs.declared.Stream.{Stream}

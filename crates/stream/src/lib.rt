@@ -3,7 +3,7 @@ use edition::Edition;
 ghost use mathlib.Core.Path.{_≡_};
 ghost use lib.ListN.{length};
 ghost use Rattle.fold.specs.Output.{bytesOf, over};
-ghost use Rattle.wire.specs.Bytes.{leBytes};
+ghost use Rattle.numbers.specs.Bytes.{leBytes};
 ghost use Rattle.live.specs.Live.{chunkOf, endOf};
 ghost use Rattle.image.specs.Image.{imageOf};
 ghost use Rattle.stream.specs.Stream.{startOf, startedIn, On};
@@ -61,7 +61,7 @@ pub fn applied(state: &[u8]) -> u64
     ensures { λ r. ⌜ On (now (state .entry)) (λ l. r ≡ l .applied) (r ≡ 0) ⌝ }
 {
     if image::is_state(state) {
-        return wire::le64(state, 8);
+        return numbers::le64(state, 8);
     }
     0
 }

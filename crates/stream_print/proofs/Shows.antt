@@ -7,8 +7,9 @@ use lib.ListN.{length, getD, take, drop, length-append}
 use lib.Seq.{take-at, length-take-le}
 use borrow.Author.Tests.{le-leb}
 use Rattle.decimal.specs.Put.{Put}
-use Rattle.wire.specs.Bytes.{leBytes, asks, readsIn}
-use Rattle.wire.proofs.Laws.{length-records}
+use Rattle.numbers.specs.Bytes.{leBytes}
+use Rattle.wire.specs.Decode.{asks, readsIn}
+use Rattle.trailer.proofs.Laws.{length-records}
 use Rattle.fold.specs.Output.{bytesOf, over}
 use Rattle.fold.proofs.Laws as laws
 use Rattle.edition.specs.Edition.{editionOf}

@@ -10,7 +10,7 @@ use lib.Seq.{take-suc, take-all, getD-drop, length-take-le}
 use Rattle.decimal.specs.Digits.{digitsOf}
 use Rattle.decimal.specs.Put.{Put}
 use Rattle.decimal.proofs.Puts.{put-nothing, put-then, put-long, put-full, put-one}
-use Rattle.wire.specs.Bytes.{leOf}
+use Rattle.numbers.specs.Bytes.{leOf}
 use Rattle.text.specs.Text.{line, linesOf, numbersIn, readingsIn}
 
 -- ---- copy: no byte, one byte more, and all of them

@@ -7,7 +7,7 @@ use lib.ListN.{length, getD, drop, length-append}
 use lib.Seq.{getD-drop}
 use Rattle.decimal.specs.Digits.{digitsOf}
 use Rattle.decimal.proofs.Back.{twenty-digits}
-use Rattle.wire.specs.Bytes.{leOf}
+use Rattle.numbers.specs.Bytes.{leOf}
 use Rattle.decimal.specs.Ascii.{ascii}
 use Rattle.text.specs.Text.{line, linesOf, textOf, numbersIn, readingsIn}
 

@@ -4,7 +4,7 @@ ghost use Prim.Native.Nat.{_+_, _*_, _≤_};
 ghost use lib.ListN.{length};
 ghost use Rattle.decimal.specs.Digits.{digitsOf};
 ghost use Rattle.decimal.specs.Put.{Put};
-ghost use Rattle.wire.specs.Bytes.{leOf};
+ghost use Rattle.numbers.specs.Bytes.{leOf};
 ghost use Rattle.text.specs.Text.{line, textOf, linesOf, readingsIn, pairText, rateText, refusedText, refusedRecordText, noNumberText, differentText};
 
 // A word that has room. With no test in the loop it is compiled to copy many bytes at a time.
@@ -63,7 +63,7 @@ fn put_reading(out: &mut [u8], at: usize, readings: &[u8], i: usize) -> usize
     requires { ⌜ 8 * i + 8 ≤ length (now readings) ⌝ }
     ensures { λ r. ⌜ Put (now (out .entry)) at (line (digitsOf (leOf 8 (now (readings .entry)) (8 * i)))) (now (out .exit)) r ⌝ }
 {
-    put_line(out, at, b"", wire::le64(readings, 8 * i))
+    put_line(out, at, b"", numbers::le64(readings, 8 * i))
 }
 
 // Each reading on its own line.

@@ -24,15 +24,17 @@ use Rattle.shaft.specs.Shaft.{travel, steps, gapOf}
 use Rattle.shaft.proofs.Balance.{AllPins}
 use Rattle.shaft.proofs.Motions.{gaps, sign}
 use Rattle.select.specs.Select.{fieldOf, some, encoderRouted}
-use Rattle.wire.specs.Bytes.{leOf, leBytes, readsIn}
-use Rattle.wire.specs.Trailer.{trailerOf, recordsAt, recordsOf, editionIn}
-use Rattle.wire.specs.Record.{bankOf, decodeOf, namedOf, writeOf, readOf, pinsOf, ticksOf, answerOf}
-use Rattle.wire.specs.declared.Trailer.{Trailer}
-use Rattle.wire.specs.declared.Trailer.the-variants.{Found, Refused as NoTrailer}
-use Rattle.wire.specs.declared.Record.the-variants.{ReadEncoder, Pins}
-use Rattle.wire.specs.declared.Decoded.the-variants.{Names}
+use Rattle.numbers.specs.Bytes.{leOf, leBytes}
+use Rattle.wire.specs.Decode.{readsIn}
+use Rattle.trailer.specs.Trailer.{trailerOf, recordsAt, recordsOf, editionIn}
+use Rattle.wire.specs.Decode.{bankOf, decodeOf}
+use Rattle.records.specs.Record.{namedOf, writeOf, readOf, pinsOf, ticksOf, answerOf}
+use Rattle.trailer.specs.declared.Trailer.{Trailer}
+use Rattle.trailer.specs.declared.Trailer.the-variants.{Found, Refused as NoTrailer}
+use Rattle.records.specs.declared.Record.the-variants.{ReadEncoder, Pins}
+use Rattle.records.specs.declared.Decoded.the-variants.{Names}
 use Rattle.replay.proofs.Bytes.{reading-there}
-use Rattle.wire.proofs.Laws.{few-records}
+use Rattle.trailer.proofs.Laws.{few-records}
 use Rattle.wire.proofs.Formed.{formed, bank-formed}
 use Rattle.bank.specs.Bank.{encoderAt}
 use Rattle.banks.specs.declared.State.{State}

@@ -4,7 +4,7 @@ use mathlib.Core.List.{List, [], _∷_, _++_}
 use Prim.Native.Nat.{ℕ, _+_, _*_, _/_, _%_}
 use lib.Dec.{eqb}
 use lib.ListN.{getD, set, replicate}
-use Rattle.wire.specs.Bytes.{leBytes}
+use Rattle.numbers.specs.Bytes.{leBytes}
 use Rattle.vcd.specs.declared.Step.{Step}
 use Rattle.vcd.specs.declared.Step.the-variants.{Wait, Pins}
 use Rattle.vcd.specs.Dump.{startOf}

@@ -19,11 +19,12 @@ use Rattle.text.specs.Text.{line, noNumberText}
 use Rattle.edition.specs.declared.Edition.{Edition}
 use Rattle.edition.specs.Edition.{known, editionOf}
 use Rattle.fold.specs.Output.{over}
-use Rattle.wire.specs.Record.{decodeOf, refusalOf}
-use Rattle.wire.specs.declared.Decoded.{Decoded}
-use Rattle.wire.specs.declared.Decoded.the-variants.{Names, Refused}
+use Rattle.wire.specs.Decode.{decodeOf}
+use Rattle.records.specs.Record.{refusalOf}
+use Rattle.records.specs.declared.Decoded.{Decoded}
+use Rattle.records.specs.declared.Decoded.the-variants.{Names, Refused}
 use Rattle.wire.proofs.Formed.{refused-by}
-use Rattle.wire.proofs.Laws.{length-records}
+use Rattle.trailer.proofs.Laws.{length-records}
 use Rattle.writer.specs.declared.Written.{Written}
 use Rattle.writer.specs.How.{recordsIn}
 use Rattle.writer.specs.Writer.{logOf, refusedBy, firstOf, writtenOf, outputOf}
