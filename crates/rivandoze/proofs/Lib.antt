@@ -1,4 +1,1 @@
-pub mod Proved
-mod Words
-pub mod RateWords
-pub mod JudgeWord
+mod Calls

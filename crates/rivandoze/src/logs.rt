@@ -1,6 +1,6 @@
 // The calls on logs and streams. Each answer is one number: the refusal in the low byte, 0 if none, and above it how many records were applied, how many
 // bytes were written, or how many stretches, entries or readings there are.
-ghost use Prim.Native.Nat.{_<_, _/_, _%_, _^_};
+ghost use Prim.Native.Nat.{_/_, _%_, _^_};
 ghost use mathlib.Core.Path.{_≡_};
 ghost use lib.ListN.{length};
 ghost use Rattle.fold.specs.Output.{numberOf, bytesOf, over};
@@ -16,14 +16,8 @@ ghost use Rattle.writer.specs.Writer.{writtenOf, outputOf as write-output};
 ghost use Rattle.live.specs.Live.{chunkOf, endOf};
 ghost use Rattle.image.specs.Image.{imageOf};
 ghost use Rattle.stream.specs.Stream.{startOf, startedIn, On};
-ghost use Rattle.rivandoze.specs.Word.{Word};
-
-fn word(refused: u8, number: usize) -> u64
-    requires { ⌜ number < 2 ^ 56 ⌝ }
-    ensures { λ r. ⌜ Word refused number r ⌝ }
-{
-    (refused as u64) + 256 * (number as u64)
-}
+ghost use Rattle.words.specs.Word.{Word};
+use words::word;
 
 // Bits 8 up: how many records were applied, also when one was refused.
 #[no_mangle]

@@ -1,6 +1,6 @@
 -- `rivandoze::judges::rvz_judge` meets its contract. Assumes nothing.
 use borrow.Author.Needs.{needs}
-use Rattle.rivandoze.proofs.JudgeWord.{index-small, judge-word}
+use Rattle.words.proofs.JudgeWord.{index-small, judge-word}
 use Rattle.rivandoze.proofs.judges.rvz_judge.Statement.{statement}
 use Rattle.rivandoze.proofs.judges.rvz_judge.Tie as tie
 

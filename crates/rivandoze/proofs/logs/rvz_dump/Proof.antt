@@ -1,6 +1,6 @@
 -- `rivandoze::logs::rvz_dump` meets its contract. Assumes nothing.
 use borrow.Author.Needs.{needs}
-use Rattle.rivandoze.proofs.Words.{dump-small, made-word}
+use Rattle.rivandoze.proofs.Calls.{dump-small, made-word}
 use Rattle.rivandoze.proofs.logs.rvz_dump.Statement.{statement}
 use Rattle.rivandoze.proofs.logs.rvz_dump.Tie as tie
 

@@ -1,6 +1,6 @@
 -- `rivandoze::logs::rvz_dump_read` meets its contract. Assumes nothing.
 use borrow.Author.Needs.{needs}
-use Rattle.rivandoze.proofs.Words.{entries-word}
+use Rattle.rivandoze.proofs.Calls.{entries-word}
 use Rattle.rivandoze.proofs.logs.rvz_dump_read.Statement.{statement}
 use Rattle.rivandoze.proofs.logs.rvz_dump_read.Tie as tie
 

@@ -1,6 +1,6 @@
 -- `rivandoze::logs::rvz_replay` meets its contract. Assumes nothing.
 use borrow.Author.Needs.{needs}
-use Rattle.rivandoze.proofs.Words.{replay-small, replay-word}
+use Rattle.rivandoze.proofs.Calls.{replay-small, replay-word}
 use Rattle.rivandoze.proofs.logs.rvz_replay.Statement.{statement}
 use Rattle.rivandoze.proofs.logs.rvz_replay.Tie as tie
 

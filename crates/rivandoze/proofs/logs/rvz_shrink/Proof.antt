@@ -1,6 +1,6 @@
 -- `rivandoze::logs::rvz_shrink` meets its contract. Assumes nothing.
 use borrow.Author.Needs.{needs}
-use Rattle.rivandoze.proofs.Words.{shrink-small, made-word}
+use Rattle.rivandoze.proofs.Calls.{shrink-small, made-word}
 use Rattle.rivandoze.proofs.logs.rvz_shrink.Statement.{statement}
 use Rattle.rivandoze.proofs.logs.rvz_shrink.Tie as tie
 

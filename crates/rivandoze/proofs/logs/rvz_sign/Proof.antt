@@ -1,6 +1,6 @@
 -- `rivandoze::logs::rvz_sign` meets its contract. Assumes nothing.
 use borrow.Author.Needs.{needs}
-use Rattle.rivandoze.proofs.Words.{sign-small, sign-word}
+use Rattle.rivandoze.proofs.Calls.{sign-small, sign-word}
 use Rattle.rivandoze.proofs.logs.rvz_sign.Statement.{statement}
 use Rattle.rivandoze.proofs.logs.rvz_sign.Tie as tie
 

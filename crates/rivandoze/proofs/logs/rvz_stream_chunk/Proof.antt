@@ -1,6 +1,6 @@
 -- `rivandoze::logs::rvz_stream_chunk` meets its contract. Assumes nothing.
 use borrow.Author.Needs.{needs}
-use Rattle.rivandoze.proofs.Words.{chunk-word}
+use Rattle.rivandoze.proofs.Calls.{chunk-word}
 use Rattle.rivandoze.proofs.logs.rvz_stream_chunk.Statement.{statement}
 use Rattle.rivandoze.proofs.logs.rvz_stream_chunk.Tie as tie
 

@@ -1,6 +1,6 @@
 -- `rivandoze::logs::rvz_stream_start` meets its contract. Assumes nothing.
 use borrow.Author.Needs.{needs}
-use Rattle.rivandoze.proofs.Words.{number-word}
+use Rattle.rivandoze.proofs.Calls.{number-word}
 use Rattle.rivandoze.proofs.logs.rvz_stream_start.Statement.{statement}
 use Rattle.rivandoze.proofs.logs.rvz_stream_start.Tie as tie
 

@@ -1,6 +1,6 @@
 -- `rivandoze::logs::rvz_write` meets its contract. Assumes nothing.
 use borrow.Author.Needs.{needs}
-use Rattle.rivandoze.proofs.Words.{write-word}
+use Rattle.rivandoze.proofs.Calls.{write-word}
 use Rattle.rivandoze.proofs.logs.rvz_write.Statement.{statement}
 use Rattle.rivandoze.proofs.logs.rvz_write.Tie as tie
 

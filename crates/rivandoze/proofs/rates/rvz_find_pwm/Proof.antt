@@ -1,6 +1,6 @@
 -- `rivandoze::rates::rvz_find_pwm` meets its contract. Assumes nothing.
 use borrow.Author.Needs.{needs}
-use Rattle.rivandoze.proofs.RateWords.{narrow-pwm, parts-fit, found-word}
+use Rattle.words.proofs.RateWords.{narrow-pwm, parts-fit, found-word}
 use Rattle.rivandoze.proofs.rates.rvz_find_pwm.Statement.{statement}
 use Rattle.rivandoze.proofs.rates.rvz_find_pwm.Tie as tie
 

@@ -1,6 +1,6 @@
 -- `rivandoze::rates::rvz_find_spi` meets its contract. Assumes nothing.
 use borrow.Author.Needs.{needs}
-use Rattle.rivandoze.proofs.RateWords.{narrow-spi, parts-fit, found-word}
+use Rattle.words.proofs.RateWords.{narrow-spi, parts-fit, found-word}
 use Rattle.rivandoze.proofs.rates.rvz_find_spi.Statement.{statement}
 use Rattle.rivandoze.proofs.rates.rvz_find_spi.Tie as tie
 

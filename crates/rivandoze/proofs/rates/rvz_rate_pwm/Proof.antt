@@ -1,6 +1,6 @@
 -- `rivandoze::rates::rvz_rate_pwm` meets its contract. Assumes nothing.
 use borrow.Author.Needs.{needs}
-use Rattle.rivandoze.proofs.RateWords.{narrow-pwm, period-fits, clock-fits, rated-word}
+use Rattle.words.proofs.RateWords.{narrow-pwm, period-fits, clock-fits, rated-word}
 use Rattle.rivandoze.proofs.rates.rvz_rate_pwm.Statement.{statement}
 use Rattle.rivandoze.proofs.rates.rvz_rate_pwm.Tie as tie
 

@@ -1,6 +1,6 @@
 -- `rivandoze::rates::rvz_rate_spi` meets its contract. Assumes nothing.
 use borrow.Author.Needs.{needs}
-use Rattle.rivandoze.proofs.RateWords.{narrow-spi, period-fits, clock-fits, rated-word}
+use Rattle.words.proofs.RateWords.{narrow-spi, period-fits, clock-fits, rated-word}
 use Rattle.rivandoze.proofs.rates.rvz_rate_spi.Statement.{statement}
 use Rattle.rivandoze.proofs.rates.rvz_rate_spi.Tie as tie
 

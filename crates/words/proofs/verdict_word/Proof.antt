@@ -1,9 +1,9 @@
--- `rivandoze::judges::verdict_word` meets its contract. Assumes nothing.
+-- `words::verdict_word` meets its contract. Assumes nothing.
 use lib.Dec.{lit≤}
 use borrow.Author.Needs.{needs}
-use Rattle.rivandoze.proofs.JudgeWord.{index-place, index-beside, index-part, refused-part}
-use Rattle.rivandoze.proofs.judges.verdict_word.Statement.{statement}
-use Rattle.rivandoze.proofs.judges.verdict_word.Tie as tie
+use Rattle.words.proofs.JudgeWord.{index-place, index-beside, index-part, refused-part}
+use Rattle.words.proofs.verdict_word.Statement.{statement}
+use Rattle.words.proofs.verdict_word.Tie as tie
 
 pub verdict-word-spec : {M : Type 1} → statement M
 verdict-word-spec =

@@ -26,10 +26,7 @@ use Rattle.live.specs.Live.{chunkOf, endOf}
 use Rattle.stream.specs.Stream.{On}
 use Rattle.stream.specs.declared.Told.{Told}
 use Rattle.writer.specs.declared.Written.{Written}
-use Rattle.rivandoze.specs.Word.{Word}
-
-pub a-word : (k n w : ℕ) → w % 256 ≡ k → w / 256 ≡ n → Word k n w
-a-word k n w a b = record { refusal = a; above = b }
+use Rattle.words.specs.Word.{Word}
 
 -- ---- how large the numbers are
 
@@ -77,6 +74,3 @@ module _ (w : ℕ) where
 
   pub write-word : (d e : Written) → d ≡ e → Word (d .refused) (d .number % 2 ^ 56) w → Word (e .refused) (e .number % 2 ^ 56) w
   write-word d e q x = rw q at x
-
-pub word-settled : (k n v w : ℕ) → Word k n v → Word k n w → v ≡ w
-word-settled k n v w a b = omega (arith, a .refusal, a .above, b .refusal, b .above)

@@ -1,8 +1,8 @@
--- `rivandoze::rates::find_word` meets its contract. Assumes nothing.
+-- `words::find_word` meets its contract. Assumes nothing.
 use borrow.Author.Needs.{needs}
-use Rattle.rivandoze.proofs.RateWords.{choice-part, x-part, found-period-part, pair-part, refused-part}
-use Rattle.rivandoze.proofs.rates.find_word.Statement.{statement}
-use Rattle.rivandoze.proofs.rates.find_word.Tie as tie
+use Rattle.words.proofs.RateWords.{choice-part, x-part, found-period-part, pair-part, refused-part}
+use Rattle.words.proofs.find_word.Statement.{statement}
+use Rattle.words.proofs.find_word.Tie as tie
 
 pub find-word-spec : {M : Type 1} → statement M
 find-word-spec =

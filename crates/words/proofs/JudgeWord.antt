@@ -10,7 +10,7 @@ use Rattle.judge.specs.declared.Verdict.{Verdict}
 use Rattle.judge.specs.declared.Verdict.the-variants.{Different, Refused}
 use Rattle.judge.specs.Judge.{Judged, verdictNumbers, Answer}
 use Rattle.judge.proofs.Answers.{small-index, no-two}
-use Rattle.rivandoze.specs.Word.{judgedIn}
+use Rattle.words.specs.Word.{judgedIn}
 
 -- a number by its parts, and parts that fit
 together : ℕ × ℕ × ℕ → ℕ

@@ -1,8 +1,8 @@
--- `rivandoze::rates::rate_word` meets its contract. Assumes nothing.
+-- `words::rate_word` meets its contract. Assumes nothing.
 use borrow.Author.Needs.{needs}
-use Rattle.rivandoze.proofs.RateWords.{period-part, clock-part, ratio-part, unset-part}
-use Rattle.rivandoze.proofs.rates.rate_word.Statement.{statement}
-use Rattle.rivandoze.proofs.rates.rate_word.Tie as tie
+use Rattle.words.proofs.RateWords.{period-part, clock-part, ratio-part, unset-part}
+use Rattle.words.proofs.rate_word.Statement.{statement}
+use Rattle.words.proofs.rate_word.Tie as tie
 
 pub rate-word-spec : {M : Type 1} → statement M
 rate-word-spec =

@@ -1,7 +1,7 @@
--- `rivandoze::rates::pair_word` meets its contract. Assumes nothing.
+-- `words::pair_word` meets its contract. Assumes nothing.
 use borrow.Author.Needs.{needs}
-use Rattle.rivandoze.proofs.rates.pair_word.Statement.{statement}
-use Rattle.rivandoze.proofs.rates.pair_word.Tie as tie
+use Rattle.words.proofs.pair_word.Statement.{statement}
+use Rattle.words.proofs.pair_word.Tie as tie
 
 pub pair-word-spec : {M : Type 1} → statement M
 pair-word-spec =

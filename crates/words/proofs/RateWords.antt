@@ -15,8 +15,8 @@ use Rattle.rate.specs.Rate.{pwm, spi, Outcome, outside, loose, none, pair, Answ
 use Rattle.rate.specs.How.{Fair}
 use Rattle.rate.proofs.Dividers.{most}
 use Rattle.rate.proofs.Answers.{same-numbers}
-use Rattle.rivandoze.specs.Word.{foundIn, ratedIn}
-use Rattle.rivandoze.specs.How.{findWord, rateWord}
+use Rattle.words.specs.Word.{foundIn, ratedIn}
+use Rattle.words.specs.How.{findWord, rateWord}
 
 -- ---- parts that fit are read back as they were, and a number is its parts
 
