@@ -24,8 +24,8 @@ use Rattle.encoder.proofs.Wrap.{pattern-lt}
 use Rattle.pwm.specs.declared.Pwm.{Pwm}
 use Rattle.pwm.specs.Pwm as pwm
 use Rattle.bits.specs.Bits.{num}
-use Rattle.i2c.specs.declared.Phase.{Phase}
-use Rattle.i2c.specs.declared.Phase.the-variants.{Idle, TxIdle, RxIdle}
+use Rattle.i2c_code.specs.declared.Phase.{Phase}
+use Rattle.i2c_code.specs.declared.Phase.the-variants.{Idle, TxIdle, RxIdle}
 use Rattle.i2c.specs.declared.I2c.{I2c}
 use Rattle.i2c.specs.I2c as i2c
 use Rattle.bank.specs.declared.Bank.{Bank}

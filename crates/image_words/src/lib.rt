@@ -2,7 +2,7 @@
 use bits::number;
 use encoder::Encoder;
 use i2c::I2c;
-use i2c::Phase;
+use i2c_code::Phase;
 use pwm::Pwm;
 use pwm::Registers;
 use pwm::Wave;

@@ -9,7 +9,7 @@ use Rattle.encoder.specs.Encoder.{marked}
 use Rattle.encoder.specs.Facts.{played}
 use Rattle.pwm.specs.Pwm.{nextOf}
 use Rattle.fold.specs.Turn.{refused}
-use Rattle.i2c.specs.declared.Phase.the-variants.{TxIdle}
+use Rattle.i2c_code.specs.declared.Phase.the-variants.{TxIdle}
 use Rattle.i2c.specs.I2c.{onAddr, onCntl, onAnswer, ran, goTurn, fresh}
 use Rattle.sums.specs.Paper.{enabled, started}
 

@@ -1,6 +1,6 @@
 use borrow.Author.Needs.{needs}
-use Rattle.i2c.proofs.I2c.state.Statement.{statement}
-use Rattle.i2c.proofs.I2c.state.Tie as tie
+use Rattle.i2c_code.proofs.state.Statement.{statement}
+use Rattle.i2c_code.proofs.state.Tie as tie
 
 pub state-spec : {M : Type 1} → statement M
 state-spec =

@@ -1,7 +1,7 @@
 use borrow.Author.Needs.{needs}
-use Rattle.i2c.proofs.States.{in-idle, in-tx, in-rx}
-use Rattle.i2c.proofs.matches.Statement.{statement}
-use Rattle.i2c.proofs.matches.Tie as tie
+use Rattle.i2c_code.proofs.States.{in-idle, in-tx, in-rx}
+use Rattle.i2c_code.proofs.matches.Statement.{statement}
+use Rattle.i2c_code.proofs.matches.Tie as tie
 
 pub matches-spec : {M : Type 1} → statement M
 matches-spec =

@@ -5,8 +5,8 @@ use mathlib.Core.Bool.{Bool, true, false, not, cond, _&&_, and-false}
 use Prim.Native.Nat.{ℕ}
 use Rattle.bits.specs.Bits.{bit}
 use Rattle.laws.proofs.Cases.{taken, left}
-use Rattle.i2c.specs.declared.Code.{Code}
-use Rattle.i2c.specs.I2c.{failed}
+use Rattle.i2c_code.specs.declared.Code.{Code}
+use Rattle.i2c_code.specs.Code.{failed}
 
 module _ (answer : ℕ) (k : Code) where
   abbrev nobody : Bool
