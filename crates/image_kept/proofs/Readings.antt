@@ -18,9 +18,9 @@ use Rattle.wire.specs.declared.Record.{Record}
 use Rattle.wire.specs.declared.Record.the-variants.{WriteSelect, WriteEncoder, WritePwm, WriteI2c, Answer, ReadSelect, ReadEncoder, ReadPwm, ReadI2c, Pins, Ticks}
 use Rattle.wire.proofs.Formed.{bank-formed}
 use Rattle.encoder.specs.declared.Encoder.{Encoder}
-use Rattle.encoder.specs.Count.{pattern}
+use Rattle.encoder_count.specs.Count.{pattern}
 use Rattle.encoder.specs.Encoder as encoder
-use Rattle.encoder.proofs.Wrap.{pattern-lt}
+use Rattle.encoder_count.proofs.Wrap.{pattern-lt}
 use Rattle.pwm.specs.declared.Pwm.{Pwm}
 use Rattle.pwm.specs.Pwm as pwm
 use Rattle.bits.specs.Bits.{num}

@@ -6,7 +6,7 @@ use lib.Dec.{eqb, ltb, leb}
 use Rattle.bits.specs.Bits.{bit, num}
 use Rattle.wire.specs.Record.{pwmCnfg}
 use Rattle.divider.specs.Divider.{dividerOf}
-use Rattle.encoder.specs.Count.{pattern, signed}
+use Rattle.encoder_count.specs.Count.{pattern, signed}
 use Rattle.encoder.specs.declared.Encoder.{Encoder}
 use Rattle.pwm.specs.declared.Registers.{Registers}
 use Rattle.pwm.specs.declared.Wave.{Wave}

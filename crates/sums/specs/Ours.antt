@@ -4,7 +4,7 @@ use mathlib.Core.Path.{_≡_}
 use mathlib.Core.Bool.{true, false}
 use mathlib.Core.List.{[], _∷_}
 use lib.IntN.{pos, negsuc, _+ℤ_}
-use Rattle.encoder.specs.Count.{pattern, wrap}
+use Rattle.encoder_count.specs.Count.{pattern, wrap}
 use Rattle.encoder.specs.Encoder.{marked}
 use Rattle.encoder.specs.Facts.{played}
 use Rattle.pwm.specs.Pwm.{nextOf}

@@ -17,4 +17,5 @@ pins-spec =
     (λ c κs. search needs)
     (λ c. search pins-kept)
     (λ c κs. search needs)
+    (λ c κs. search needs)
     (λ c. search pins-clocked))
