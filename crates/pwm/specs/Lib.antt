@@ -1,3 +1,2 @@
 pub mod Pwm
-pub mod How
 pub mod Facts

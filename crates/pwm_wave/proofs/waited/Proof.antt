@@ -1,0 +1,22 @@
+use borrow.Author.Needs.{needs}
+use Rattle.pwm_wave.proofs.Waits.{off, steps-fit, rest-left, rest-fits, wait}
+use Rattle.pwm_wave.proofs.waited.Statement.{statement}
+use Rattle.pwm_wave.proofs.waited.Tie as tie
+
+pub waited-spec : {M : Type 1} → statement M
+waited-spec =
+    tie.close
+    (tie.spec
+    (λ c κs. search needs)
+    (λ c. search off)
+    (λ c. search needs)
+    (λ c. search needs)
+    (λ c. search needs)
+    (λ c. search needs)
+    (λ c. record { fits = search steps-fit })
+    (λ c. search needs)
+    (λ c. search needs)
+    (λ c. search rest-left)
+    (λ c. record { fits = search rest-fits })
+    (λ c κs. search needs)
+    (λ c. search wait))

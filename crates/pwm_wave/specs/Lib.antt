@@ -1,0 +1,2 @@
+pub mod Wave
+pub mod How
