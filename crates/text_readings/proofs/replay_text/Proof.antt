@@ -1,8 +1,8 @@
--- `text::replay_text` meets its contract. Assumes nothing.
+-- `text_readings::replay_text` meets its contract. Assumes nothing.
 use borrow.Author.Needs.{needs}
 use Rattle.decimal.proofs.Puts.{put-then}
-use Rattle.text.proofs.replay_text.Statement.{statement}
-use Rattle.text.proofs.replay_text.Tie as tie
+use Rattle.text_readings.proofs.replay_text.Statement.{statement}
+use Rattle.text_readings.proofs.replay_text.Tie as tie
 
 pub replay-text-spec : {M : Type 1} → statement M
 replay-text-spec =

@@ -1,8 +1,8 @@
--- `text::no_number_text` meets its contract. Assumes nothing.
+-- `text_answers::no_number_text` meets its contract. Assumes nothing.
 use borrow.Author.Needs.{needs}
 use Rattle.decimal.proofs.Puts.{put-then}
-use Rattle.text.proofs.no_number_text.Statement.{statement}
-use Rattle.text.proofs.no_number_text.Tie as tie
+use Rattle.text_answers.proofs.no_number_text.Statement.{statement}
+use Rattle.text_answers.proofs.no_number_text.Tie as tie
 
 pub no-number-text-spec : {M : Type 1} → statement M
 no-number-text-spec =

@@ -1,8 +1,8 @@
--- `text::pair_text` meets its contract. Assumes nothing.
+-- `text_answers::pair_text` meets its contract. Assumes nothing.
 use borrow.Author.Needs.{needs}
 use Rattle.decimal.proofs.Puts.{put-then}
-use Rattle.text.proofs.pair_text.Statement.{statement}
-use Rattle.text.proofs.pair_text.Tie as tie
+use Rattle.text_answers.proofs.pair_text.Statement.{statement}
+use Rattle.text_answers.proofs.pair_text.Tie as tie
 
 pub pair-text-spec : {M : Type 1} → statement M
 pair-text-spec =

@@ -1,8 +1,8 @@
--- `text::put_reading` meets its contract. Assumes nothing.
+-- `text_readings::put_reading` meets its contract. Assumes nothing.
 use borrow.Author.Needs.{needs}
-use Rattle.text.proofs.Lines.{reading}
-use Rattle.text.proofs.put_reading.Statement.{statement}
-use Rattle.text.proofs.put_reading.Tie as tie
+use Rattle.text_readings.proofs.Readings.{reading}
+use Rattle.text_readings.proofs.put_reading.Statement.{statement}
+use Rattle.text_readings.proofs.put_reading.Tie as tie
 
 pub put-reading-spec : {M : Type 1} → statement M
 put-reading-spec =
