@@ -1,4 +1,4 @@
--- `vcd_write::put_wires` meets its contract: the encoders passed have their lines. Assumes nothing.
+-- `vcd_header::put_wires` meets its contract: the encoders passed have their lines. Assumes nothing.
 use native.Mathlib.Omega.{arith}
 use Prim.Native.Nat.{_-_, _≤_}
 use lib.ListN.{take}
@@ -6,11 +6,11 @@ use Rattle.decimal.specs.Put.{Put}
 use Rattle.decimal.proofs.Puts.{put-long}
 use Rattle.vcd.specs.Lines.{textOf}
 use Rattle.vcd.specs.Dump.{wiresFrom}
-use Rattle.vcd_write.specs.How.{wireLine}
+use Rattle.vcd_header.specs.How.{wireLine}
 use borrow.Author.Needs.{needs}
-use Rattle.vcd_write.proofs.Lines.{wires-none, wires-next, wires-done}
-use Rattle.vcd_write.proofs.put_wires.Statement.{statement}
-use Rattle.vcd_write.proofs.put_wires.Tie as tie
+use Rattle.vcd_header.proofs.Wires.{wires-none, wires-next, wires-done}
+use Rattle.vcd_header.proofs.put_wires.Statement.{statement}
+use Rattle.vcd_header.proofs.put_wires.Tie as tie
 
 abbrev Inv-loop : tie.InvT-loop
 Inv-loop out₀ at declares pins end₀ e₀ out end e = (e ≤ 20) × Put out₀ at (textOf (wiresFrom (wireLine declares) 0 (take e pins))) out end

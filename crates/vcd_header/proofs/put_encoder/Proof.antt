@@ -1,8 +1,8 @@
--- `vcd_write::put_encoder` meets its contract. Assumes nothing.
+-- `vcd_header::put_encoder` meets its contract. Assumes nothing.
 use borrow.Author.Needs.{needs}
-use Rattle.vcd_write.proofs.Lines.{no-wire, two-wires}
-use Rattle.vcd_write.proofs.put_encoder.Statement.{statement}
-use Rattle.vcd_write.proofs.put_encoder.Tie as tie
+use Rattle.vcd_header.proofs.Wires.{no-wire, two-wires}
+use Rattle.vcd_header.proofs.put_encoder.Statement.{statement}
+use Rattle.vcd_header.proofs.put_encoder.Tie as tie
 
 pub put-encoder-spec : {M : Type 1} → statement M
 put-encoder-spec =

@@ -1,8 +1,8 @@
--- `vcd_write::put_wire` meets its contract. Assumes nothing.
+-- `vcd_header::put_wire` meets its contract. Assumes nothing.
 use borrow.Author.Needs.{needs}
-use Rattle.vcd_write.proofs.Lines.{wire-declared, wire-unknown}
-use Rattle.vcd_write.proofs.put_wire.Statement.{statement}
-use Rattle.vcd_write.proofs.put_wire.Tie as tie
+use Rattle.vcd_header.proofs.Wires.{wire-declared, wire-unknown}
+use Rattle.vcd_header.proofs.put_wire.Statement.{statement}
+use Rattle.vcd_header.proofs.put_wire.Tie as tie
 
 pub put-wire-spec : {M : Type 1} → statement M
 put-wire-spec =

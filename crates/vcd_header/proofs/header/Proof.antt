@@ -1,9 +1,9 @@
--- `vcd_write::header` meets its contract. Assumes nothing.
+-- `vcd_header::header` meets its contract. Assumes nothing.
 use Rattle.vcd.specs.Lines as lines
 use borrow.Author.Needs.{needs}
-use Rattle.vcd_write.proofs.Lines.{header-put}
-use Rattle.vcd_write.proofs.header.Statement.{statement}
-use Rattle.vcd_write.proofs.header.Tie as tie
+use Rattle.vcd_header.proofs.Wires.{header-put}
+use Rattle.vcd_header.proofs.header.Statement.{statement}
+use Rattle.vcd_header.proofs.header.Tie as tie
 
 pub header-spec : {M : Type 1} → statement M
 unfolding lines.textOf lines.printOf lines.fixedLines

@@ -1,8 +1,8 @@
--- `vcd_write::put_var` meets its contract. Assumes nothing.
+-- `vcd_header::put_var` meets its contract. Assumes nothing.
 use borrow.Author.Needs.{needs}
-use Rattle.vcd_write.proofs.Lines.{var-put}
-use Rattle.vcd_write.proofs.put_var.Statement.{statement}
-use Rattle.vcd_write.proofs.put_var.Tie as tie
+use Rattle.vcd_header.proofs.Wires.{var-put}
+use Rattle.vcd_header.proofs.put_var.Statement.{statement}
+use Rattle.vcd_header.proofs.put_var.Tie as tie
 
 pub put-var-spec : {M : Type 1} → statement M
 put-var-spec =
