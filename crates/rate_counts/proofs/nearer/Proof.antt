@@ -1,10 +1,10 @@
--- `rate::nearer` meets its contract. Assumes nothing.
+-- `rate_counts::nearer` meets its contract. Assumes nothing.
 use native.Mathlib.Nat.{le-refl, le-of-lt, le-add-right}
 use borrow.Author.Needs.{needs}
 use Rattle.laws.proofs.Cases.{cases}
-use Rattle.rate.proofs.Fits.{under-fits, high-fits, short-near, over-near, product-fits}
-use Rattle.rate.proofs.nearer.Statement.{statement}
-use Rattle.rate.proofs.nearer.Tie as tie
+use Rattle.rate_counts.proofs.Fits.{under-fits, high-fits, short-near, over-near, product-fits}
+use Rattle.rate_counts.proofs.nearer.Statement.{statement}
+use Rattle.rate_counts.proofs.nearer.Tie as tie
 
 ruleset compared = (product-fits, short-near, over-near, le-refl, le-add-right, needs)
 

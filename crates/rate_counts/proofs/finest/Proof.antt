@@ -1,13 +1,13 @@
--- `rate::finest` meets its contract. The loop's invariant: what is at hand is a bracket of the request. Assumes nothing.
+-- `rate_counts::finest` meets its contract. The loop's invariant: what is at hand is a bracket of the request. Assumes nothing.
 use mathlib.Core.Path.{_≡_}
 use Prim.Native.Nat.{ℕ, _/_, _≤_, _<_}
 use borrow.Author.Needs.{needs}
 use native.Mathlib.Omega.{arith}
-use Rattle.rate.specs.declared.Bracket.{Bracket}
-use Rattle.rate.specs.How.{Fit, Brackets, undividedOf, coarserOf}
-use Rattle.rate.proofs.Sides.{first-some, first-brackets, coarser-brackets}
-use Rattle.rate.proofs.finest.Statement.{statement}
-use Rattle.rate.proofs.finest.Tie as tie
+use Rattle.rate_counts.specs.declared.Bracket.{Bracket}
+use Rattle.rate_counts.specs.How.{Fit, Brackets, undividedOf, coarserOf}
+use Rattle.rate_counts.proofs.Around.{first-some, first-brackets, coarser-brackets}
+use Rattle.rate_counts.proofs.finest.Statement.{statement}
+use Rattle.rate_counts.proofs.finest.Tie as tie
 
 abbrev Inv-loop : tie.InvT-loop
 Inv-loop clock step a₀ a = Brackets clock step a
