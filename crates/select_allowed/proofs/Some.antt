@@ -8,7 +8,7 @@ use native.Mathlib.Omega.{arith}
 use lib.Dec.{eqb}
 use borrow.Author.Tests.{eqb-true, eqb-false}
 use Rattle.laws.proofs.Truth.{neither, nor}
-use Rattle.select.specs.Select.{some}
+use Rattle.select_allowed.specs.Allowed.{some}
 
 -- where none passes each fails, and the other way
 pub none-below : (f : ℕ → Bool) (n : ℕ) → some f n ≡ false → (k : ℕ) → k < n → f k ≡ false

@@ -9,11 +9,11 @@ use lib.Dec.{T, ltb, eqb, lit<}
 use lib.Bits.{bitAnd, and-le-r}
 use borrow.Author.Tests.{eqb-true, eq-eqb, ne-eqb}
 use Rattle.laws.proofs.Truth.{both-true}
-use Rattle.select.specs.Select.{fieldOf, some, three, allowed}
-use Rattle.select.specs.How.{marks, threes, twos}
-use Rattle.select.proofs.Marks.{same-pins, same-marks, double, pairs, alike, all-pairs}
-use Rattle.select.proofs.Fields.{inside}
-use Rattle.select.proofs.Means.{threePin, Allowed, allowed-means}
+use Rattle.select_allowed.specs.Allowed.{fieldOf, some, three, allowed}
+use Rattle.select_allowed.specs.How.{marks, threes, twos}
+use Rattle.select_allowed.proofs.Marks.{same-pins, same-marks, double, pairs, alike, all-pairs}
+use Rattle.select_allowed.proofs.Pins.{inside}
+use Rattle.select_allowed.proofs.Means.{threePin, Allowed, allowed-means}
 
 iff : (a b : Bool) → (a ≡ true → b ≡ true) → (b ≡ true → a ≡ true) → a ≡ b
 iff true b f g = sym (f refl)
@@ -143,9 +143,12 @@ means s e =
       pairs = paired-means s (h .1);
     }
 
-pub quick : (s t e : ℕ) → t ≡ threes s → e ≡ twos s → (serial t && paired e) ≡ allowed false s
+quick : (s t e : ℕ) → t ≡ threes s → e ≡ twos s → (serial t && paired e) ≡ allowed false s
 quick s t e p q =
     rw (p, q)
     (iff (serial (threes s) && paired (twos s)) (allowed false s)
     (λ z. allowed-means s .suffices (means s z))
     (λ z. let k = allowed-means s .means z in rw (serial-keeps s k, paired-keeps s k)))
+
+pub pins-allowed : (port : Bool) (s t e : ℕ) → port ≡ false → t ≡ threes s → e ≡ twos s → (serial t && paired e) ≡ allowed port s
+pins-allowed port s t e p q r = quick s t e q r ∙ ap (λ (b : Bool). allowed b s) (sym p)

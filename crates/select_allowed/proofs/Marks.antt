@@ -8,7 +8,7 @@ use native.Mathlib.Omega.{arith}
 use lib.Dec.{eqb}
 use lib.Bits.{bitAnd, bitOr, bitXor, and-block, and-mask, and-zero-r, and-shr, or-shr, xor-shr, and-mod, or-mod, xor-mod}
 use Rattle.bits.specs.Bits.{num}
-use Rattle.select.specs.How.{marks, ones, threes, twos}
+use Rattle.select_allowed.specs.How.{marks, ones, threes, twos}
 
 -- ---- operations on all bits
 

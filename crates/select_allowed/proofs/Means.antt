@@ -7,8 +7,8 @@ use lib.Dec.{eqb}
 use borrow.Author.Tests.{eqb-true, eq-eqb, not-true, not-false}
 use Rattle.laws.proofs.Truth.{neither, nor, same, same-not}
 use Rattle.bits.specs.Bits.{changes}
-use Rattle.select.specs.Select.{fieldOf, three, two, allowed}
-use Rattle.select.proofs.Some.{none-below, all-fail}
+use Rattle.select_allowed.specs.Allowed.{fieldOf, three, two, allowed}
+use Rattle.select_allowed.proofs.Some.{none-below, all-fail}
 
 -- the pins that may be 3
 abbrev pub threePin : ℕ → Bool
