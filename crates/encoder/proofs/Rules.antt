@@ -13,7 +13,6 @@ use Rattle.bits.specs.Bits.{bit, rises, changes}
 use Rattle.laws.proofs.Cases.{taken, left}
 use Rattle.laws.proofs.Truth.{neither}
 use Rattle.encoder.specs.declared.Encoder.{Encoder}
-use Rattle.encoder_pins.specs.How.{clockedPlaces}
 use Rattle.encoder_count.specs.Count.{pattern, wrap}
 use Rattle.encoder.specs.Encoder.{en, rst, mode, cleared, marked, erred, stored, kept, counted, places, quadrature, clocked, onPins, onCnfg, countsInQuadrature, registerOf}
 use Rattle.encoder.proofs.Counting.{first-kept, pins-quadrature}
@@ -50,13 +49,15 @@ back (suc (suc (suc t))) v e r h₀ h₁ h₂ q = q
 
 -- ---- MODE 1
 
-clocked-is : (v : ℕ) (e : Encoder) → quadrature (clockedPlaces (e .pins) v) v e ≡ clocked v e
-clocked-is v e = by (rises (bit 0 (e .pins)) (bit 0 v)) (bit 1 v)
-  where
-    by : (step back : Bool) → quadrature (cond step (cond back 3 1) 0) v e ≡ cond step (counted back v e) (kept v e)
-    by true true = refl
-    by true false = refl
-    by false back = refl
+module _ (v : ℕ) (e r : Encoder) where
+  pub clocked-down : rises (bit 0 (e .pins)) (bit 0 v) ≡ true → v / 2 % 2 ≡ 1 → r ≡ counted true v e → r ≡ clocked v e
+  clocked-down t b h = taken _ _ _ r t (h ∙ ap (λ (x : Bool). counted x v e) (sym (eq-eqb _ _ b)))
+
+  pub clocked-up : rises (bit 0 (e .pins)) (bit 0 v) ≡ true → (v / 2 % 2 ≡ 1 → ⊥) → r ≡ counted false v e → r ≡ clocked v e
+  clocked-up t b h = taken _ _ _ r t (h ∙ ap (λ (x : Bool). counted x v e) (sym (ne-eqb _ _ b)))
+
+  pub clocked-no : rises (bit 0 (e .pins)) (bit 0 v) ≡ false → r ≡ kept v e → r ≡ clocked v e
+  clocked-no t h = left _ _ _ r t h
 
 -- ---- pins
 
@@ -89,11 +90,9 @@ module _ (v : ℕ) (e r : Encoder) where
   pub pins-kept : (e .cnfg % 2 ≡ 0 → ⊥) → (not (e .seen) || rst (e .cnfg)) ≡ true → r ≡ kept v e → r ≡ onPins v e
   pins-kept h t q = left _ _ _ r (ap not (enabled (e .cnfg) h)) (taken _ _ _ r t q)
 
-  pub pins-clocked : (t : ℕ) → (e .cnfg % 8 ≡ 1 → ⊥) → (e .cnfg % 2 ≡ 0 → ⊥) → (not (e .seen) || rst (e .cnfg)) ≡ false → t ≡ clockedPlaces (e .pins) v
-      → r ≡ quadrature t v e → r ≡ onPins v e
-  pins-clocked t h k f p q =
-      let is = q ∙ ap (λ (i : ℕ). quadrature i v e) p ∙ clocked-is v e in
-      left _ _ _ r (ap not (enabled (e .cnfg) k)) (left _ _ _ r f (taken _ _ _ r (other (e .cnfg) h k (neither (not (e .seen)) _ f .1)) is))
+  pub pins-clocked : (e .cnfg % 8 ≡ 1 → ⊥) → (e .cnfg % 2 ≡ 0 → ⊥) → (not (e .seen) || rst (e .cnfg)) ≡ false → r ≡ clocked v e → r ≡ onPins v e
+  pins-clocked h k f q =
+      left _ _ _ r (ap not (enabled (e .cnfg) k)) (left _ _ _ r f (taken _ _ _ r (other (e .cnfg) h k (neither (not (e .seen)) _ f .1)) q))
 
 -- ---- a write to CNFG, to the count n and the STAT s
 

@@ -3,7 +3,6 @@ use encoder_count::bit_pattern;
 use encoder_count::kept_count;
 use encoder_count::wrapping_down;
 use encoder_count::wrapping_up;
-use encoder_pins::clocked_places;
 use encoder_pins::places;
 use encoder_pins::unsees;
 use encoder_stat::cleared_by;
@@ -12,7 +11,7 @@ use encoder_stat::marked_down;
 use encoder_stat::marked_up;
 ghost use mathlib.Core.Path.{_≡_};
 ghost use mathlib.Core.Bool.{Bool};
-ghost use Rattle.encoder.specs.Encoder.{stored, kept, counted, quadrature, onCnfg, onSelect, onPins, registerOf, fresh};
+ghost use Rattle.encoder.specs.Encoder.{stored, kept, counted, quadrature, clocked, onCnfg, onSelect, onPins, registerOf, fresh};
 
 pub struct Encoder {
     pub count: i32,
@@ -74,7 +73,7 @@ impl Encoder {
         self.stored(v, wrapping_down(at), marked_down(at, self.stat))
     }
 
-    // By how many places forward the pins are.
+    // MODE 0, by how many places forward the pins are.
     fn quadrature(self, places: u8, v: u8) -> Encoder
         ensures { λ r. ⌜ r ≡ quadrature places v self ⌝ }
     {
@@ -88,6 +87,19 @@ impl Encoder {
             return self.stored(v, self.count, erred(self.stat));
         }
         self.counted_down(v)
+    }
+
+    // MODE 1.
+    fn clocked(self, v: u8) -> Encoder
+        ensures { λ r. ⌜ r ≡ clocked v self ⌝ }
+    {
+        if !(self.pins % 2 == 1) & (v % 2 == 1) {
+            if v / 2 % 2 == 1 {
+                return self.counted_down(v);
+            }
+            return self.counted_up(v);
+        }
+        self.kept(v)
     }
 
     // A pins record: bit 0 is A, bit 1 is B.
@@ -108,7 +120,7 @@ impl Encoder {
         if !self.seen | (c / 2 % 2 == 1) {
             return self.kept(v);
         }
-        self.quadrature(clocked_places(self.pins, v), v)
+        self.clocked(v)
     }
 
     pub fn write_cnfg(self, v: u32) -> Encoder

@@ -1,2 +1,1 @@
 pub mod Pins
-pub mod How

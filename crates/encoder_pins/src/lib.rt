@@ -1,9 +1,8 @@
-// An encoder's pins: how many places on they are in each mode, and when they become unseen.
+// An encoder's pins: how many places on they are, and when they become unseen.
 ghost use mathlib.Core.Path.{_≡_};
 ghost use mathlib.Core.Bool.{_||_};
 ghost use Rattle.bits.specs.Bits.{changes};
 ghost use Rattle.encoder_pins.specs.Pins.{en, mode, places};
-ghost use Rattle.encoder_pins.specs.How.{clockedPlaces};
 
 // How many places on the pins are, at old * 4 + new: 1 is one place forward, 3 one back, 2 is both pins changed.
 const PLACES: [u8; 16] = [0, 1, 3, 2, 3, 0, 2, 1, 1, 2, 0, 3, 2, 3, 1, 0];
@@ -13,19 +12,6 @@ pub fn places(old: u8, new: u8) -> u8
 {
     let i = ((old % 4) as usize) * 4 + ((new % 4) as usize);
     PLACES[i]
-}
-
-// The same of MODE 1.
-pub fn clocked_places(old: u8, new: u8) -> u8
-    ensures { λ r. ⌜ r ≡ clockedPlaces old new ⌝ }
-{
-    if !(old % 2 == 1) & (new % 2 == 1) {
-        if new / 2 % 2 == 1 {
-            return 3;
-        }
-        return 1;
-    }
-    0
 }
 
 // Whether a write of v to CNFG, which was c, makes the pins unseen.

@@ -11,8 +11,8 @@ use Rattle.encoder.specs.declared.Encoder.{Encoder}
 use Rattle.encoder.specs.Encoder as encoder
 use Rattle.encoder.proofs.Counting.{after-pins, pins-cnfg, pins-count, cnfg-count, stat-six, pins-stat}
 use Rattle.divider.specs.Divider.{dividerOf}
-use Rattle.pwm_wave.specs.declared.Registers.{Registers}
-use Rattle.pwm_wave.specs.declared.Wave.{Wave}
+use Rattle.pwm.specs.declared.Registers.{Registers}
+use Rattle.pwm.specs.declared.Wave.{Wave}
 use Rattle.pwm.specs.declared.Pwm.{Pwm}
 use Rattle.pwm.specs.Pwm as pwm
 use Rattle.pwm.proofs.Proved.{short}

@@ -20,8 +20,8 @@ use Rattle.i2c_code.specs.declared.Phase.the-variants.{Idle, TxIdle, RxIdle}
 use Rattle.i2c.specs.declared.I2c.{I2c}
 use Rattle.i2c.specs.I2c.{stateOf}
 use Rattle.wire.specs.Record.{pwmCnfg}
-use Rattle.pwm_wave.specs.declared.Registers.{Registers}
-use Rattle.pwm_wave.specs.declared.Wave.{Wave}
+use Rattle.pwm.specs.declared.Registers.{Registers}
+use Rattle.pwm.specs.declared.Wave.{Wave}
 use Rattle.image_words.specs.Words.{FitsI2c, FitsEncoder}
 use Rattle.image_words.specs.How.{registersNumber, registersOf, isRegisters, waveNumber, waveOf, isWave, isSelect, phaseOf, i2cNumber, i2cOf, isI2c, encoderNumber, encoderOf, isEncoder}
 use Rattle.image_words.proofs.Numbers.{state-small, cnfg-small}

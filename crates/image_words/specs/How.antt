@@ -8,8 +8,8 @@ use Rattle.wire.specs.Record.{pwmCnfg}
 use Rattle.divider.specs.Divider.{dividerOf}
 use Rattle.encoder_count.specs.Count.{pattern, signed}
 use Rattle.encoder.specs.declared.Encoder.{Encoder}
-use Rattle.pwm_wave.specs.declared.Registers.{Registers}
-use Rattle.pwm_wave.specs.declared.Wave.{Wave}
+use Rattle.pwm.specs.declared.Registers.{Registers}
+use Rattle.pwm.specs.declared.Wave.{Wave}
 use Rattle.pwm.specs.declared.Pwm.{Pwm}
 use Rattle.i2c_code.specs.declared.Phase.{Phase}
 use Rattle.i2c_code.specs.declared.Phase.the-variants.{Idle, TxIdle, RxIdle}

@@ -8,16 +8,11 @@ use lib.Dec.{ltb, eqb}
 use borrow.Author.Tests.{ltb-true}
 use Rattle.laws.proofs.Cases.{cases, by-le}
 use Rattle.divider.specs.Divider.{dividerOf}
-use Rattle.pwm_wave.specs.declared.Registers.{Registers}
-use Rattle.pwm_wave.specs.declared.Wave.{Wave}
+use Rattle.pwm.specs.declared.Registers.{Registers}
+use Rattle.pwm.specs.declared.Wave.{Wave}
 use Rattle.pwm.specs.Pwm.{mode, topOf, stepped, ticked, waited}
-use Rattle.pwm_wave.specs.How.{at}
-use Rattle.pwm.specs.declared.Pwm.{Pwm}
+use Rattle.pwm.specs.How.{at, moved}
 use Rattle.pwm.specs.Facts.{Always, Quiet, Short, Agree}
-
--- the channel with another wave
-abbrev moved : Pwm → Wave → Pwm
-moved p w = record { registers = p .registers; wave = w }
 
 -- what a tick keeps where it only adds to the remainder, and where the counter steps, a wait keeps
 module _ (runs : Bool) (g : Registers) (Holds : Wave → Type 0)

@@ -1,14 +1,15 @@
--- A write and a reading, by the register that they name, and ticks, by the wave.
+-- A write and a reading, by the register that they name.
 -- Assumes nothing.
-use mathlib.Core.Path.{_≡_, refl, ap}
+use mathlib.Core.Path.{_≡_, refl}
 use Prim.Native.Nat.{ℕ, zero, suc}
-use mathlib.Core.Bool.{Bool}
-use Rattle.pwm_wave.specs.declared.Wave.{Wave}
 use Rattle.pwm.specs.declared.Pwm.{Pwm}
-use Rattle.pwm.specs.Pwm.{waited, onTicks, onWrite, registerOf}
+use Rattle.pwm.specs.Pwm.{onWrite, registerOf}
 
 pub written : (register k v : ℕ) (q p : Pwm) → register ≡ k → p ≡ onWrite k v q → p ≡ onWrite register v q
 written register k v q p e f = rw e f
+
+pub read : (register k : ℕ) (p : Pwm) → register ≡ k → registerOf k p ≡ registerOf register p
+read register k p e = rw e
 
 pub level : (register : ℕ) (p : Pwm) (v : ℕ) → v ≡ registerOf 5 p
     → (register ≡ 0 → ⊥) → (register ≡ 1 → ⊥) → (register ≡ 2 → ⊥) → (register ≡ 3 → ⊥) → (register ≡ 4 → ⊥) → v ≡ registerOf register p
@@ -18,7 +19,3 @@ level (suc (suc zero)) p v h a b c d e = absurd (c refl)
 level (suc (suc (suc zero))) p v h a b c d e = absurd (d refl)
 level (suc (suc (suc (suc zero)))) p v h a b c d e = absurd (e refl)
 level (suc (suc (suc (suc (suc n))))) p v h a b c d e = h
-
-pub waits : (runs : Bool) (t : ℕ) (p : Pwm) (w : Wave) → w ≡ waited runs t (p .registers) (p .wave)
-    → _≡_ {A = Pwm} (record { registers = p .registers; wave = w }) (onTicks runs t p)
-waits runs t p w e = ap (λ (x : Wave). record { registers = p .registers; wave = x }) e

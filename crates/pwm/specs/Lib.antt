@@ -1,2 +1,3 @@
 pub mod Pwm
+pub mod How
 pub mod Facts

@@ -17,5 +17,4 @@ pins-spec =
     (λ c κs. search needs)
     (λ c. search pins-kept)
     (λ c κs. search needs)
-    (λ c κs. search needs)
     (λ c. search pins-clocked))

@@ -11,10 +11,12 @@ use lib.Pow.{pow-pos, pow-mono}
 use borrow.Author.Tests.{lt-ltb, le-ltb, ne-eqb}
 use Rattle.divider.specs.Divider.{dividerOf}
 use Rattle.divider.proofs.Powers.{power}
-use Rattle.pwm_wave.specs.declared.Registers.{Registers}
-use Rattle.pwm_wave.specs.declared.Wave.{Wave}
-use Rattle.pwm_wave.specs.Wave.{stepped, ticked, waited}
-use Rattle.pwm_wave.specs.How.{at, left, often, stepsOf}
+use Rattle.pwm.specs.declared.Registers.{Registers}
+use Rattle.pwm.specs.declared.Wave.{Wave}
+use Rattle.pwm.specs.declared.Pwm.{Pwm}
+use Rattle.pwm.specs.Pwm.{stepped, ticked, waited, onTicks}
+use Rattle.pwm.specs.How.{at, left, moved, often, stepsOf}
+use Rattle.pwm.specs.Facts.{Short}
 
 -- a wait in two parts
 pub waited-add : (runs : Bool) (a b : ℕ) (g : Registers) (w : Wave) → waited runs (a + b) g w ≡ waited runs a g (waited runs b g w)
@@ -22,11 +24,14 @@ unfolding waited
 waited-add runs zero b g w = rw (zero-add b)
 waited-add runs (suc a) b g w = rw (suc-add a b) (ap (ticked runs g) (waited-add runs a b g w))
 
--- "CS 0 is off"
-pub waited-off : (runs : Bool) (t : ℕ) (g : Registers) (w : Wave) → dividerOf (g .cs) ≡ 0 → waited runs t g w ≡ w
+waited-off : (runs : Bool) (t : ℕ) (g : Registers) (w : Wave) → dividerOf (g .cs) ≡ 0 → waited runs t g w ≡ w
 unfolding waited ticked
 waited-off runs zero g w e = refl
 waited-off runs (suc t) g w e = rw e (waited-off runs t g w e)
+
+-- "CS 0 is off"
+pub stands : (runs : Bool) (t : ℕ) (p : Pwm) → p .registers .cs ≡ 0 → onTicks runs t p ≡ p
+stands runs t p e = ap (moved p) (waited-off runs t (p .registers) (p .wave) (ap dividerOf e))
 
 -- the steps look at no remainder
 alike : (runs : Bool) (g : Registers) (w : Wave) (x q r : ℕ) → stepsOf runs q r g (left x w) ≡ stepsOf runs q r g w
@@ -59,22 +64,22 @@ module _ (runs : Bool) (g : Registers) (n : ℕ) (divides : n ≡ dividerOf (g .
 -- ---- what the code makes of t ticks
 
 -- CS 0, whose place wraps, and what lies above 7
-pub off : (runs : Bool) (g : Registers) (w : Wave) (place t : ℕ) → (place + 1) % 2 ^ 16 ≡ g .cs → place < 2 ^ 16 → 6 < place → w ≡ waited runs t g w
-off runs g w place t e h k = sym (waited-off runs t g w (by (decLe 1 (g .cs))))
+pub off : (runs : Bool) (q : Pwm) (place t : ℕ) → (place + 1) % 2 ^ 16 ≡ q .registers .cs → place < 2 ^ 16 → 6 < place → q ≡ onTicks runs t q
+off runs q place t e h k = ap (moved q) (sym (waited-off runs t (q .registers) (q .wave) (by (decLe 1 (q .registers .cs)))))
   where
-    by : Dec (1 ≤ g .cs) → dividerOf (g .cs) ≡ 0
-    by (yes l) = rw (le-ltb (g .cs) 1 l, lt-ltb 7 (g .cs) (omega arith))
-    by (no l) = rw (lt-ltb (g .cs) 1 (omega arith))
+    by : Dec (1 ≤ q .registers .cs) → dividerOf (q .registers .cs) ≡ 0
+    by (yes l) = rw (le-ltb (q .registers .cs) 1 l, lt-ltb 7 (q .registers .cs) (omega arith))
+    by (no l) = rw (lt-ltb (q .registers .cs) 1 (omega arith))
 
-module _ (g : Registers) (w : Wave) (place t : ℕ) (on : place ≤ 6) (e : (place + 1) % 2 ^ 16 ≡ g .cs) (short : w .remainder ≤ dividerOf (g .cs) - 1) (h : t < 2 ^ 32) where
+module _ (q : Pwm) (place t : ℕ) (on : place ≤ 6) (e : (place + 1) % 2 ^ 16 ≡ q .registers .cs) (short : Short q) (h : t < 2 ^ 32) where
   abbrev m : ℕ
-  m = w .remainder + t
+  m = q .wave .remainder + t
 
   -- N of a place in the divider table is two to that power
-  two : dividerOf (g .cs) ≡ 2 ^ place
+  two : dividerOf (q .registers .cs) ≡ 2 ^ place
   two =
-      let z : g .cs - 1 ≡ place = omega arith in
-      rw (power (g .cs) (omega arith) (omega arith), z)
+      let z : q .registers .cs - 1 ≡ place = omega arith in
+      rw (power (q .registers .cs) (omega arith) (omega arith), z)
 
   some : 0 < 2 ^ place
   some = pow-pos place
@@ -97,7 +102,7 @@ module _ (g : Registers) (w : Wave) (place t : ℕ) (on : place ≤ 6) (e : (pla
   pub rest-fits : m - m / 2 ^ place * 2 ^ place % 2 ^ 64 < 2 ^ 8
   rest-fits = omega (arith, is-rest, mod-lt m some, few)
 
-  pub wait : (runs : Bool) (v : Wave) → v ≡ stepsOf runs (m / 2 ^ place) (m - m / 2 ^ place * 2 ^ place % 2 ^ 64) g w → v ≡ waited runs t g w
-  wait runs v f =
+  pub wait : (runs : Bool) (p : Pwm) → p ≡ moved q (stepsOf runs (m / 2 ^ place) (m - m / 2 ^ place * 2 ^ place % 2 ^ 64) (q .registers) (q .wave)) → p ≡ onTicks runs t q
+  wait runs p f =
       rw (f, is-rest)
-      (sym (counts runs g (2 ^ place) (sym two) some w (omega (arith, two, some)) t _ (m % 2 ^ place) whole (mod-lt m some)))
+      (ap (moved q) (sym (counts runs (q .registers) (2 ^ place) (sym two) some (q .wave) (omega (arith, two, some)) t _ (m % 2 ^ place) whole (mod-lt m some))))

@@ -1,8 +1,8 @@
 use borrow.Author.Needs.{needs}
 use Rattle.laws.proofs.Cases.{cases}
-use Rattle.pwm_wave.proofs.Rounds.{above-on, above-off}
-use Rattle.pwm_wave.proofs.until_zero.Statement.{statement}
-use Rattle.pwm_wave.proofs.until_zero.Tie as tie
+use Rattle.pwm.proofs.Rounds.{above-on, above-off}
+use Rattle.pwm.proofs.until_zero.Statement.{statement}
+use Rattle.pwm.proofs.until_zero.Tie as tie
 
 pub until-zero-spec : {M : Type 1} → statement M
 until-zero-spec =

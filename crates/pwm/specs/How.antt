@@ -1,12 +1,13 @@
 -- How a wait is worked out: the steps in its ticks, and of the steps the way up or, past the top, the way up from the counter's last 0.
--- No promise of a public function names it; `proofs/` show that it comes to the single ticks of `Wave`. Assumes nothing.
+-- No promise of a public function names it; `proofs/` show that it comes to the single ticks of `Pwm`. Assumes nothing.
 use Prim.Native.Nat.{ℕ, zero, suc, _+_, _-_}
 use mathlib.Core.Bool.{Bool, not, cond, _&&_}
 use lib.Dec.{ltb, leb}
 use Rattle.bits.specs.Bits.{bit}
-use Rattle.pwm_wave.specs.declared.Registers.{Registers}
-use Rattle.pwm_wave.specs.declared.Wave.{Wave}
-use Rattle.pwm_wave.specs.Wave.{stepped}
+use Rattle.pwm.specs.declared.Registers.{Registers}
+use Rattle.pwm.specs.declared.Wave.{Wave}
+use Rattle.pwm.specs.declared.Pwm.{Pwm}
+use Rattle.pwm.specs.Pwm.{stepped}
 
 abbrev pub inv : ℕ → Bool
 inv cnfg = bit 0 cnfg
@@ -17,6 +18,10 @@ at counter remainder output = record { counter = counter; remainder = remainder;
 -- the wave with r ticks left over
 abbrev pub left : ℕ → Wave → Wave
 left r w = at (w .counter) r (w .output)
+
+-- the channel with another wave
+abbrev pub moved : Pwm → Wave → Pwm
+moved p w = record { registers = p .registers; wave = w }
 
 -- s steps
 unfoldable pub often : Bool → ℕ → Registers → Wave → Wave

@@ -9,10 +9,11 @@ use native.Mathlib.Decide.{decLe}
 use native.Mathlib.Omega.{arith}
 use lib.Dec.{ltb, leb, eqb}
 use borrow.Author.Tests.{lt-ltb, le-ltb, le-leb, lt-leb, eq-eqb, ne-eqb}
-use Rattle.pwm_wave.specs.declared.Registers.{Registers}
-use Rattle.pwm_wave.specs.declared.Wave.{Wave}
-use Rattle.pwm_wave.specs.Wave.{mode, topOf, stepped}
-use Rattle.pwm_wave.specs.How.{inv, at, left, often, stepsOf, climbed, wrapped, untilZero}
+use Rattle.pwm.specs.declared.Registers.{Registers}
+use Rattle.pwm.specs.declared.Wave.{Wave}
+use Rattle.pwm.specs.declared.Pwm.{Pwm}
+use Rattle.pwm.specs.Pwm.{mode, topOf, stepped}
+use Rattle.pwm.specs.How.{inv, at, left, moved, often, stepsOf, climbed, wrapped, untilZero}
 
 -- ---- a step, by where the counter stands
 
@@ -173,20 +174,29 @@ some-steps runs c max h = by runs (decLe c max) refl
     by true (no k) z = rw (z, lt-ltb max c (omega arith)) (omega arith)
     by false (no k) z = rw (z, lt-ltb max c (omega arith)) (omega arith)
 
-module _ (runs : Bool) (g : Registers) (w : Wave) (s r : ℕ) where
-  pub low : (b : Bool) (k : ℕ) → b ≡ mode (g .cnfg) → b ≡ false → w .counter < 2 ^ 16 → k ≡ (w .counter + s % 65536) % 2 ^ 16 →
-      at k r (w .output) ≡ stepsOf runs s r g w
-  low b k m z h e =
+-- what the steps of MODE 1 ask
+pub is-mode-1 : (cnfg : ℕ) (b : Bool) → b ≡ mode cnfg → b ≡ true → mode cnfg ≡ true
+is-mode-1 cnfg b m z = sym m ∙ z
+
+module _ (runs : Bool) (q p : Pwm) (s r : ℕ) where
+  abbrev g : Registers
+  g = q .registers
+
+  abbrev w : Wave
+  w = q .wave
+
+  abbrev Stepped : Type 0
+  Stepped = p ≡ moved q (stepsOf runs s r g w)
+
+  pub low : (b : Bool) (k : ℕ) → b ≡ mode (g .cnfg) → b ≡ false → w .counter < 2 ^ 16 →
+      k ≡ (w .counter + s % 65536) % 2 ^ 16 → p ≡ moved q (at k r (w .output)) → Stepped
+  low b k m z h e f =
       let same : k ≡ (w .counter + s) % 65536 = omega arith in
-      ap (λ (x : ℕ). at x r (w .output)) same ∙ sym (steps-low runs g w (sym m ∙ z) h s r)
+      f ∙ ap (moved q) (ap (λ (x : ℕ). at x r (w .output)) same ∙ sym (steps-low runs g w (sym m ∙ z) h s r))
 
-  -- what MODE 1's steps ask
-  pub is-mode-1 : (b : Bool) → b ≡ mode (g .cnfg) → b ≡ true → mode (g .cnfg) ≡ true
-  is-mode-1 b m z = sym m ∙ z
-
-  module _ (v : Wave) (m : mode (g .cnfg) ≡ true) (room : ℕ) (u : room ≡ untilZero runs (w .counter) (g .max)) where
-    pub up : s < room → v ≡ climbed g (w .counter + s) r w → v ≡ stepsOf runs s r g w
-    up h f = f ∙ sym (steps-up runs g w m s r (rw u at h))
+  module _ (m : mode (g .cnfg) ≡ true) (room : ℕ) (u : room ≡ untilZero runs (w .counter) (g .max)) where
+    pub up : s < room → p ≡ moved q (climbed g (w .counter + s) r w) → Stepped
+    up h f = f ∙ ap (moved q) (sym (steps-up runs g w m s r (rw u at h)))
 
     at-zero : w .counter < 2 ^ 16 → often runs room g w ≡ wrapped g 0 0
     unfolding often
@@ -197,19 +207,21 @@ module _ (runs : Bool) (g : Registers) (w : Wave) (s r : ℕ) where
         rw steps
         (ap (stepped runs g) (steps-up runs g w m far 0 (omega (arith, last))) ∙ step-over runs g _ 0 _ m (until-top runs g (w .counter) far m l last))
 
-    pub over : w .counter < 2 ^ 16 → room ≤ s → v ≡ wrapped g ((s - room) % (g .max + 1)) r → v ≡ stepsOf runs s r g w
+    pub over : w .counter < 2 ^ 16 → room ≤ s → p ≡ moved q (wrapped g ((s - room) % (g .max + 1)) r) → Stepped
     over l h f =
         let all : s - room + room ≡ s = omega arith in
-        f ∙ rw all at (sym (after runs g m w room (s - room) r (at-zero l)))
+        f ∙ ap (moved q) (rw all at (sym (after runs g m w room (s - room) r (at-zero l))))
 
 -- ---- the output
 
-module _ (g : Registers) (w : Wave) (k r : ℕ) where
-  pub cmp-met : (i : Bool) → (ltb (w .counter) (g .cmp) && leb (g .cmp) k) ≡ true → i ≡ inv (g .cnfg) → at k r i ≡ climbed g k r w
-  cmp-met i t e = rw (e, t)
+module _ (q p : Pwm) (k r : ℕ) where
+  pub cmp-met : (i : Bool) → (ltb (q .wave .counter) (q .registers .cmp) && leb (q .registers .cmp) k) ≡ true → i ≡ inv (q .registers .cnfg) →
+      p ≡ moved q (at k r i) → p ≡ moved q (climbed (q .registers) k r (q .wave))
+  cmp-met i t e f = rw (f, e, t)
 
-  pub cmp-unmet : (ltb (w .counter) (g .cmp) && leb (g .cmp) k) ≡ false → at k r (w .output) ≡ climbed g k r w
-  cmp-unmet t = rw t
+  pub cmp-unmet : (ltb (q .wave .counter) (q .registers .cmp) && leb (q .registers .cmp) k) ≡ false →
+      p ≡ moved q (at k r (q .wave .output)) → p ≡ moved q (climbed (q .registers) k r (q .wave))
+  cmp-unmet t f = rw (f, t)
 
 -- set at 0 and cleared at CMP, or with INV the other way
 agree : (i b : Bool) → Bool·beq i b ≡ cond b i (not i)
@@ -218,10 +230,11 @@ agree true false = refl
 agree false true = refl
 agree false false = refl
 
-pub agreed : (g : Registers) (k r : ℕ) (i : Bool) → i ≡ inv (g .cnfg) → at k r (Bool·beq i (leb (g .cmp) k)) ≡ wrapped g k r
-agreed g k r i e =
-    let b = leb (g .cmp) k in
-    ap (at k r) (agree i b ∙ ap (λ (j : Bool). cond b j (not j)) e)
+pub agreed : (q p : Pwm) (k r : ℕ) (i : Bool) → i ≡ inv (q .registers .cnfg) →
+    p ≡ moved q (at k r (Bool·beq i (leb (q .registers .cmp) k))) → p ≡ moved q (wrapped (q .registers) k r)
+agreed q p k r i e f =
+    let b = leb (q .registers .cmp) k in
+    f ∙ ap (λ (o : Bool). moved q (at k r o)) (agree i b ∙ ap (λ (j : Bool). cond b j (not j)) e)
 
 -- a way up ends at MAX, where it began, or at 65,535
 module _ (runs : Bool) (c max s room : ℕ) (u : room ≡ untilZero runs c max) (h : s < room) (k : c < 2 ^ 16) (l : max < 2 ^ 16) where

@@ -1,7 +1,7 @@
 use borrow.Author.Needs.{needs}
-use Rattle.pwm_wave.proofs.Rounds.{low, is-mode-1}
-use Rattle.pwm_wave.proofs.steps.Statement.{statement}
-use Rattle.pwm_wave.proofs.steps.Tie as tie
+use Rattle.pwm.proofs.Rounds.{low, is-mode-1}
+use Rattle.pwm.proofs.Pwm.steps.Statement.{statement}
+use Rattle.pwm.proofs.Pwm.steps.Tie as tie
 
 pub steps-spec : {M : Type 1} → statement M
 steps-spec =
@@ -11,5 +11,6 @@ steps-spec =
     (λ c κs. search is-mode-1)
     (λ c. search needs)
     (λ c. search needs)
+    (λ c κs. search needs)
     (λ c κs. search needs)
     (λ c. search low))

@@ -1,7 +1,7 @@
 use borrow.Author.Needs.{needs}
-use Rattle.pwm_wave.proofs.Rounds.{up-fits, up-fits32, up, over, round-fits}
-use Rattle.pwm_wave.proofs.in_mode_1.Statement.{statement}
-use Rattle.pwm_wave.proofs.in_mode_1.Tie as tie
+use Rattle.pwm.proofs.Rounds.{up-fits, up-fits32, up, over, round-fits}
+use Rattle.pwm.proofs.Pwm.in_mode_1.Statement.{statement}
+use Rattle.pwm.proofs.Pwm.in_mode_1.Tie as tie
 
 pub in-mode-1-spec : {M : Type 1} → statement M
 in-mode-1-spec =

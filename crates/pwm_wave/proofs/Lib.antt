@@ -1,2 +1,0 @@
-mod Rounds
-pub mod Waits

@@ -1,7 +1,0 @@
-use borrow.Author.Needs.{needs}
-use Rattle.pwm_wave.proofs.Rounds.{cmp-met, cmp-unmet}
-use Rattle.pwm_wave.proofs.climbed.Statement.{statement}
-use Rattle.pwm_wave.proofs.climbed.Tie as tie
-
-pub climbed-spec : {M : Type 1} → statement M
-climbed-spec = tie.close (tie.spec (λ c κs. search needs) (λ c. search cmp-met) (λ c. search cmp-unmet))
