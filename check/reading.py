@@ -39,8 +39,8 @@ class File:
             bare = line.split(" -- ")[0] if not line.strip().startswith("--") else ""
             if not bare.strip():
                 continue
-            if bare.startswith(("use ", "pub mod ", "mod ")):
-                self.use(bare.rstrip(";"))
+            if bare.startswith(("use ", "pub use ", "unfoldable pub use ", "pub mod ", "mod ")):
+                self.use(re.sub("^(unfoldable )?pub use ", "use ", bare).rstrip(";"))
                 continue
             indent = len(bare) - len(bare.lstrip())
             if re.match(r"\s*module _", bare):

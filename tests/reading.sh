@@ -36,7 +36,7 @@ must 'reading: a name that is nowhere is seen' planted 'not found' \
     's/use Rattle.replay.specs.Replay.{replayOf}/use Rattle.replay.specs.Replay.{replayOf, nowhere}/; s/≡ written (replayOf/≡ nowhere (replayOf/' crates/rivandoze/src/logs.rt
 rows=check/rows.py
 must 'reading: a row with a wrong name is seen' planted 'not found: onPin$' 's/`onPins`/`onPin`/' docs/READING.md $rows
-must 'reading: a row whose definition is gone is seen' planted 'not found: place$' 's/^abbrev pub place :/abbrev pub moved :/' crates/encoder/specs/Encoder.antt $rows
+must 'reading: a row whose definition is gone is seen' planted 'not found: place$' 's/^abbrev pub place :/abbrev pub moved :/' crates/encoder_pins/specs/Pins.antt $rows
 must 'reading: a row whose theorem is not proved is seen' planted 'Encoders is not proved' 's/^pub encoders : Encoders/pub encoders : Type 0/' crates/encoder/proofs/Proved.antt $rows
 must 'reading: a row whose test is gone is seen' planted 'tests/program.sh has no seven bytes' 's/seven bytes/7 bytes/' tests/program.sh $rows
 must 'reading: a sentence without a row is seen' planted 'no sentence 01 pwm 6' '/^| 6 | writing CS/d' docs/READING.md $rows

@@ -51,7 +51,11 @@ fn cnfg_refusal(quadrature: bool, routed: bool, v: u64) -> u8
 fn select_refusal(port: bool, v: u64) -> u8
     ensures { λ r. ⌜ r ≡ selectRefusal port v ⌝ }
 {
-    if select::allowed(port, v) { 0 } else { 10 }
+    if select_allowed::allowed(port, v) {
+        0
+    } else {
+        10
+    }
 }
 
 fn go_refusal(c: I2c) -> u8

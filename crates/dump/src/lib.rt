@@ -100,7 +100,7 @@ fn write(log: &[u8], start: usize, n: usize, out: &mut [u8]) -> usize
     ensures { λ r. ⌜ Put (now (out .entry)) 0 (textIn (now (log .entry)) start n) (now (out .exit)) r ⌝ }
 {
     let pins = present(log, start, n);
-    let at = vcd_write::header(out, pins);
+    let at = vcd_header::header(out, pins);
     body(log, start, n, pins, out, at)
 }
 

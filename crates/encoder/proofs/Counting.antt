@@ -12,7 +12,7 @@ use Rattle.laws.proofs.Cases.{taken, left}
 use Rattle.laws.proofs.Truth.{both-true, nor, same-not}
 use Rattle.encoder.specs.declared.Encoder.{Encoder}
 use Rattle.encoder.specs.Encoder.{en, rst, mode, statOf, erred, stored, kept, counted, places, quadrature, clocked, onPins, onCnfg, countsInQuadrature}
-use Rattle.encoder.proofs.Wrap.{wrap-small}
+use Rattle.encoder_count.proofs.Wrap.{wrap-small}
 
 -- "if they were unseen, or RST is 1, that is all": the count and STAT stay
 pub still : (v : ℕ) (e : Encoder) → (not (e .seen) || rst (e .cnfg)) ≡ true → (onPins v e .count ≡ e .count) × (onPins v e .stat ≡ e .stat)

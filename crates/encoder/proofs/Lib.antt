@@ -1,6 +1,3 @@
-pub mod Wrap
 pub mod Counting
 pub mod Proved
-mod Machine
-mod Stat
 mod Rules

@@ -11,9 +11,9 @@ use lib.IntN.{ℤ, pos, sucℤ, _+ℤ_, +ℤ-sucℤ, +ℤ-idr}
 use Rattle.encoder.specs.declared.Encoder.{Encoder}
 use Rattle.encoder.specs.Encoder.{rst, onPins, onCnfg}
 use Rattle.encoder.specs.Facts.{Encoders, played}
-use Rattle.encoder.specs.Count.{pattern, wrap}
-use Rattle.encoder.proofs.Wrap.{pattern-lt, pattern-suc, pattern-wrap}
-use Rattle.encoder.proofs.Stat.{passesUnsigned, passesSigned}
+use Rattle.encoder_count.specs.Count.{pattern, wrap}
+use Rattle.encoder_count.proofs.Wrap.{pattern-lt, pattern-suc, pattern-wrap}
+use Rattle.encoder_stat.proofs.Marks.{passesUnsigned, passesSigned}
 use Rattle.encoder.proofs.Counting.{still, pins-cnfg}
 
 -- a count of 0 stays while RST is 1

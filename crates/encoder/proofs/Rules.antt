@@ -8,48 +8,23 @@ use lib.Arith.{mod-mul}
 use lib.Dec.{lit<}
 use lib.IntN.{ℤ, pos, negsuc, _+ℤ_}
 use lib.Signed.{mag}
-use mir.Syntax.{w32}
-use mir.Val.{ofZ}
 use borrow.Author.Tests.{eq-eqb, ne-eqb, eqb-false}
 use Rattle.bits.specs.Bits.{bit, rises, changes}
 use Rattle.laws.proofs.Cases.{taken, left}
 use Rattle.laws.proofs.Truth.{neither}
 use Rattle.encoder.specs.declared.Encoder.{Encoder}
-use Rattle.encoder.specs.Count.{pattern, wrap}
-use Rattle.encoder.specs.Encoder.{en, rst, mode, statOf, cleared, marked, erred, stored, kept, counted, places, quadrature, clocked, onPins, onCnfg, countsInQuadrature, registerOf}
+use Rattle.encoder_count.specs.Count.{pattern, wrap}
+use Rattle.encoder.specs.Encoder.{en, rst, mode, cleared, marked, erred, stored, kept, counted, places, quadrature, clocked, onPins, onCnfg, countsInQuadrature, registerOf}
 use Rattle.encoder.proofs.Counting.{first-kept, pins-quadrature}
-use Rattle.encoder.proofs.Machine.{held, held-is, bits-are}
+use Rattle.encoder_count.proofs.Machine.{held, held-is}
 
--- the step from 1 passes no border
-plain : (back : Bool) (s : ℕ) → marked back 1 s ≡ statOf back (bit 1 s) (bit 2 s || false) (bit 3 s || false) (bit 4 s || (bit 2 s && false)) (bit 5 s || (bit 3 s && false))
-plain true s = refl
-plain false s = refl
+-- ---- a counted step
 
--- ---- a counted step, to the count n and the STAT s
-
-module _ (v : ℕ) (e r : Encoder) (n : ℤ) (s : ℕ) (small : mag (e .count) < 2147483648) (small′ : mag n < 2147483648)
-    (made : r ≡ stored v (held n) s e) where
-  step : (back : Bool) → n ≡ wrap (held (e .count) +ℤ cond back (negsuc 0) (pos 1)) → s ≡ marked back (pattern (e .count)) (e .stat) → r ≡ counted back v e
-  step back next stat =
-      made ∙ ap (λ (m : ℤ). stored v m s e) (held-is n small′ ∙ next ∙ ap (λ (z : ℤ). wrap (z +ℤ cond back (negsuc 0) (pos 1))) (held-is (e .count) small))
-      ∙ ap (λ (t : ℕ). stored v (wrap (e .count +ℤ cond back (negsuc 0) (pos 1))) t e) stat
-
-  -- at an end
-  pub step-at : (back : Bool) (b : ℕ) → ofZ w32 (e .count) ≡ b → n ≡ wrap (held (e .count) +ℤ cond back (negsuc 0) (pos 1)) → s ≡ marked back b (e .stat)
-      → r ≡ counted back v e
-  step-at back b end next stat =
-      step back next (stat ∙ ap (λ (i : ℕ). marked back i (e .stat)) (sym end ∙ bits-are (e .count) small))
-
-  -- between the ends
-  pub step-between : (back : Bool) → (ofZ w32 (e .count) ≡ cond back 0 4294967295 → ⊥) → (ofZ w32 (e .count) ≡ cond back 2147483648 2147483647 → ⊥)
-      → n ≡ wrap (held (e .count) +ℤ cond back (negsuc 0) (pos 1)) → s ≡ marked back 1 (e .stat) → r ≡ counted back v e
-  step-between back not-unsigned not-signed next stat =
-      step back next
-      (rw (
-        ne-eqb (pattern (e .count)) (cond back 0 4294967295) (λ h. not-unsigned (bits-are (e .count) small ∙ h)),
-        ne-eqb (pattern (e .count)) (cond back 2147483648 2147483647) (λ h. not-signed (bits-are (e .count) small ∙ h)),
-      )
-      (stat ∙ plain back (e .stat)))
+pub step : (back : Bool) (v : ℕ) (e r : Encoder) (n : ℤ) (s : ℕ) → mag (e .count) < 2147483648 → mag n < 2147483648
+    → n ≡ wrap (held (e .count) +ℤ cond back (negsuc 0) (pos 1)) → s ≡ marked back (pattern (held (e .count))) (e .stat) → r ≡ stored v (held n) s e → r ≡ counted back v e
+step back v e r n s small small′ next stat made =
+    made ∙ ap (λ (m : ℤ). stored v m s e) (held-is n small′ ∙ next ∙ ap (λ (z : ℤ). wrap (z +ℤ cond back (negsuc 0) (pos 1))) (held-is (e .count) small))
+    ∙ ap (λ (t : ℕ). stored v (wrap (e .count +ℤ cond back (negsuc 0) (pos 1))) t e) (stat ∙ ap (λ (z : ℤ). marked back (pattern z) (e .stat)) (held-is (e .count) small))
 
 -- ---- MODE 0
 
@@ -121,10 +96,11 @@ module _ (v : ℕ) (e r : Encoder) where
 
 -- ---- a write to CNFG, to the count n and the STAT s
 
-pub configured : (v : ℕ) (e : Encoder) (n : ℤ) (s : ℕ) → mag (e .count) < 2147483648 → mag n < 2147483648 → n ≡ cond (rst v) (pos 0) (held (e .count))
+pub configured : (v : ℕ) (e : Encoder) (n : ℤ) (s : ℕ) (unseen : Bool) → mag (e .count) < 2147483648 → mag n < 2147483648 → n ≡ cond (rst v) (pos 0) (held (e .count))
     → s ≡ cleared (rises (bit 3 (e .cnfg)) (bit 3 v)) (rises (bit 4 (e .cnfg)) (bit 4 v)) (e .stat)
-    → _≡_ {A = Encoder} (record { count = held n; cnfg = v; stat = s; pins = e .pins; seen = e .seen && not (changes (en (e .cnfg)) (en v) || changes (mode (e .cnfg)) (mode v)) }) (onCnfg v e)
-configured v e n s small small′ count stat = cc (held-is (e .count) small, held-is n small′)
+    → unseen ≡ (changes (en (e .cnfg)) (en v) || changes (mode (e .cnfg)) (mode v))
+    → _≡_ {A = Encoder} (record { count = held n; cnfg = v; stat = s; pins = e .pins; seen = e .seen && not unseen }) (onCnfg v e)
+configured v e n s unseen small small′ count stat changed = cc (held-is (e .count) small, held-is n small′)
 
 -- ---- a read of CNTR
 

@@ -1,10 +1,17 @@
 // One encoder: its count, the registers CNFG and STAT as numbers, and the pins last seen.
-use bits::number;
+use encoder_count::bit_pattern;
+use encoder_count::kept_count;
+use encoder_count::wrapping_down;
+use encoder_count::wrapping_up;
+use encoder_pins::places;
+use encoder_pins::unsees;
+use encoder_stat::cleared_by;
+use encoder_stat::erred;
+use encoder_stat::marked_down;
+use encoder_stat::marked_up;
 ghost use mathlib.Core.Path.{_≡_};
-ghost use mathlib.Core.Bool.{Bool, cond};
-ghost use lib.IntN.{pos, negsuc, _+ℤ_};
-ghost use Rattle.encoder.specs.Count.{wrap, pattern, signed};
-ghost use Rattle.encoder.specs.Encoder.{places, cleared, marked, erred, stored, kept, counted, quadrature, clocked, onCnfg, onSelect, onPins, registerOf, fresh};
+ghost use mathlib.Core.Bool.{Bool};
+ghost use Rattle.encoder.specs.Encoder.{stored, kept, counted, quadrature, clocked, onCnfg, onSelect, onPins, registerOf, fresh};
 
 pub struct Encoder {
     pub count: i32,
@@ -12,107 +19,6 @@ pub struct Encoder {
     pub stat: u32,
     pub pins: u8,
     pub seen: bool,
-}
-
-// How many places on the pins are, at old * 4 + new: 1 is one place forward, 3 one back, 2 is both pins changed.
-const PLACES: [u8; 16] = [0, 1, 3, 2, 3, 0, 2, 1, 1, 2, 0, 3, 2, 3, 1, 0];
-
-pub fn places(old: u8, new: u8) -> u8
-    ensures { λ r. ⌜ r ≡ places old new ⌝ }
-{
-    let i = ((old % 4) as usize) * 4 + ((new % 4) as usize);
-    PLACES[i]
-}
-
-// ---- the count
-
-fn bit_pattern(at: i32) -> u32
-    ensures { λ r. ⌜ r ≡ pattern at ⌝ }
-{
-    if at < 0 {
-        4294967295 - ((-1 - at) as u32)
-    } else {
-        at as u32
-    }
-}
-
-// The count that a bit pattern stands for.
-pub fn count_of(b: u32) -> i32
-    ensures { λ r. ⌜ r ≡ signed b ⌝ }
-{
-    if b < 2147483648 {
-        b as i32
-    } else {
-        -1 - ((4294967295 - b) as i32)
-    }
-}
-
-fn wrapping_up(at: i32) -> i32
-    ensures { λ r. ⌜ r ≡ wrap (at +ℤ pos 1) ⌝ }
-{
-    count_of(std::num::wrapping_add_u32(bit_pattern(at), 1))
-}
-
-fn wrapping_down(at: i32) -> i32
-    ensures { λ r. ⌜ r ≡ wrap (at +ℤ negsuc 0) ⌝ }
-{
-    count_of(std::num::wrapping_sub_u32(bit_pattern(at), 1))
-}
-
-// RST 1 sets the count to 0.
-fn kept_count(rst: bool, at: i32) -> i32
-    ensures { λ r. ⌜ r ≡ cond rst (pos 0) at ⌝ }
-{
-    if rst { 0 } else { at }
-}
-
-// ---- STAT as a number: each rule is a few operations on its six bits
-
-// A step that passes no border, as the one from 1.
-fn marked(back: bool, stat: u32) -> u32
-    ensures { λ r. ⌜ r ≡ marked back 1 stat ⌝ }
-{
-    let s = stat % 64;
-    s / 2 * 2 | (number(back) as u32)
-}
-
-// UOVR, and UOERR where UOVR is set already.
-fn marked_past_unsigned(back: bool, stat: u32) -> u32
-    ensures { λ r. ⌜ r ≡ marked back (cond back 0 4294967295) stat ⌝ }
-{
-    let s = stat % 64;
-    s / 2 * 2 | (number(back) as u32) | 4 | (s / 4 % 2 * 16)
-}
-
-// SOVR, and SOERR where SOVR is set already.
-fn marked_past_signed(back: bool, stat: u32) -> u32
-    ensures { λ r. ⌜ r ≡ marked back (cond back 2147483648 2147483647) stat ⌝ }
-{
-    let s = stat % 64;
-    s / 2 * 2 | (number(back) as u32) | 8 | (s / 8 % 2 * 32)
-}
-
-fn erred(stat: u32) -> u32
-    ensures { λ r. ⌜ r ≡ erred stat ⌝ }
-{
-    let s = stat % 64;
-    s | 2
-}
-
-fn cleared(error: bool, overflow: bool, stat: u32) -> u32
-    ensures { λ r. ⌜ r ≡ cleared error overflow stat ⌝ }
-{
-    let s = stat % 64;
-    if error {
-        if overflow {
-            return s % 2;
-        }
-        return s & 61;
-    }
-    if overflow {
-        return s % 4;
-    }
-    s
 }
 
 impl Encoder {
@@ -157,28 +63,14 @@ impl Encoder {
         ensures { λ r. ⌜ r ≡ counted Bool.false v self ⌝ }
     {
         let at = self.count;
-        let next = wrapping_up(at);
-        if at == -1 {
-            return self.stored(v, next, marked_past_unsigned(false, self.stat));
-        }
-        if at == 2147483647 {
-            return self.stored(v, next, marked_past_signed(false, self.stat));
-        }
-        self.stored(v, next, marked(false, self.stat))
+        self.stored(v, wrapping_up(at), marked_up(at, self.stat))
     }
 
     fn counted_down(self, v: u8) -> Encoder
         ensures { λ r. ⌜ r ≡ counted Bool.true v self ⌝ }
     {
         let at = self.count;
-        let next = wrapping_down(at);
-        if at == 0 {
-            return self.stored(v, next, marked_past_unsigned(true, self.stat));
-        }
-        if at == -2147483648 {
-            return self.stored(v, next, marked_past_signed(true, self.stat));
-        }
-        self.stored(v, next, marked(true, self.stat))
+        self.stored(v, wrapping_down(at), marked_down(at, self.stat))
     }
 
     // MODE 0, by how many places forward the pins are.
@@ -238,14 +130,9 @@ impl Encoder {
         Encoder {
             count: kept_count(v / 2 % 2 == 1, self.count),
             cnfg: v,
-            stat: cleared(
-                !(c / 8 % 2 == 1) & (v / 8 % 2 == 1),
-                !(c / 16 % 2 == 1) & (v / 16 % 2 == 1),
-                self.stat,
-            ),
+            stat: cleared_by(c, v, self.stat),
             pins: self.pins,
-            seen: self.seen
-                & !(((c % 2 == 1) != (v % 2 == 1)) | ((c / 4 % 2 == 1) != (v / 4 % 2 == 1))),
+            seen: self.seen & !unsees(c, v),
         }
     }
 

@@ -1,3 +1,1 @@
-mod States
-mod Answers
 pub mod Proved

@@ -6,13 +6,15 @@ use Prim.Native.Nat.{ℕ}
 use native.Mathlib.Omega.{arith}
 use lib.Dec.{eqb}
 use Rattle.fold.specs.Turn.{Turn, goes, refused}
-use Rattle.i2c.specs.declared.Phase.{Phase}
+use Rattle.i2c_code.specs.declared.Phase.{Phase}
 use Rattle.i2c.specs.declared.I2c.{I2c}
-use Rattle.i2c.specs.declared.Code.{Code}
-use Rattle.i2c.specs.I2c.{codeOf, code, stateOf, stopAlone, allowed, forbidden, recalled, ran, goTurn}
+use Rattle.i2c_code.specs.declared.Code.{Code}
+use Rattle.i2c_code.specs.Code.{codeOf, stateOf, stopAlone, allowed, forbidden}
+use Rattle.i2c_code.specs.Facts.{accepts}
+use Rattle.i2c.specs.I2c.{code, recalled, ran, goTurn}
 use Rattle.i2c.specs.How.{gone}
-use Rattle.i2c.specs.Facts.{accepts, Sums, Recalled, Answered}
-use Rattle.i2c.proofs.Answers.{all-heard, not-there}
+use Rattle.i2c.specs.Facts.{Recalled, Answered}
+use Rattle.i2c_code.proofs.Answers.{all-heard, not-there}
 
 eleven-first : (c : I2c) → allowed (c .phase) (code c) ≡ false → goTurn c ≡ refused 11
 eleven-first c h = rw h
@@ -24,11 +26,6 @@ fall-away p r c = less (allowed p (codeOf r c)) (not (eqb (stateOf p) 2 && stopA
     less : (may bars : Bool) → (may && bars) ≡ ((may && true) && bars)
     less true bars = refl
     less false bars = refl
-
-pub sums : Sums
-unfolding allowed forbidden
-sums true = (refl, refl, refl, refl)
-sums false = (refl, refl, refl, refl)
 
 abbrev made : Bool → Bool → Bool → Bool → Bool → Code
 made receive byte start stop ack = record { receive = receive; byte = byte; start = start; stop = stop; ack = ack }

@@ -18,7 +18,7 @@ use Rattle.pwm.specs.Pwm as pwm
 use Rattle.pwm.proofs.Proved.{short}
 use Rattle.bits.specs.Bits.{bit}
 use Rattle.i2c.specs.declared.I2c.{I2c}
-use Rattle.i2c.specs.declared.Code.{Code}
+use Rattle.i2c_code.specs.declared.Code.{Code}
 use Rattle.i2c.specs.I2c as i2c
 use Rattle.i2c.specs.How as how
 use Rattle.image_words.specs.Words.{FitsI2c, FitsEncoder, FitsPwm}

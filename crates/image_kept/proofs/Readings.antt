@@ -18,14 +18,14 @@ use Rattle.records.specs.declared.Record.{Record}
 use Rattle.records.specs.declared.Record.the-variants.{WriteSelect, WriteEncoder, WritePwm, WriteI2c, Answer, ReadSelect, ReadEncoder, ReadPwm, ReadI2c, Pins, Ticks}
 use Rattle.wire.proofs.Formed.{bank-formed}
 use Rattle.encoder.specs.declared.Encoder.{Encoder}
-use Rattle.encoder.specs.Count.{pattern}
+use Rattle.encoder_count.specs.Count.{pattern}
 use Rattle.encoder.specs.Encoder as encoder
-use Rattle.encoder.proofs.Wrap.{pattern-lt}
+use Rattle.encoder_count.proofs.Wrap.{pattern-lt}
 use Rattle.pwm.specs.declared.Pwm.{Pwm}
 use Rattle.pwm.specs.Pwm as pwm
 use Rattle.bits.specs.Bits.{num}
-use Rattle.i2c.specs.declared.Phase.{Phase}
-use Rattle.i2c.specs.declared.Phase.the-variants.{Idle, TxIdle, RxIdle}
+use Rattle.i2c_code.specs.declared.Phase.{Phase}
+use Rattle.i2c_code.specs.declared.Phase.the-variants.{Idle, TxIdle, RxIdle}
 use Rattle.i2c.specs.declared.I2c.{I2c}
 use Rattle.i2c.specs.I2c as i2c
 use Rattle.bank.specs.declared.Bank.{Bank}

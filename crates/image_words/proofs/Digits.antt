@@ -12,11 +12,11 @@ use Rattle.laws.proofs.Truth.{both-true}
 use Rattle.bits.specs.Bits.{num}
 use Rattle.codec.specs.How.{Number}
 use Rattle.codec.proofs.Many.{both}
-use Rattle.encoder.specs.Count.{pattern, signed}
+use Rattle.encoder_count.specs.Count.{pattern, signed}
 use Rattle.encoder.specs.declared.Encoder.{Encoder}
-use Rattle.encoder.proofs.Wrap.{pattern-lt, pattern-signed, wrap-small, wrap-fits}
-use Rattle.i2c.specs.declared.Phase.{Phase}
-use Rattle.i2c.specs.declared.Phase.the-variants.{Idle, TxIdle, RxIdle}
+use Rattle.encoder_count.proofs.Wrap.{pattern-lt, pattern-signed, wrap-small, wrap-fits}
+use Rattle.i2c_code.specs.declared.Phase.{Phase}
+use Rattle.i2c_code.specs.declared.Phase.the-variants.{Idle, TxIdle, RxIdle}
 use Rattle.i2c.specs.declared.I2c.{I2c}
 use Rattle.i2c.specs.I2c.{stateOf}
 use Rattle.records.specs.Record.{pwmCnfg}

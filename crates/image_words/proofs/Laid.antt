@@ -8,9 +8,9 @@ use native.Mathlib.Nat.{pow-suc, zero-add, suc-add, div-lt-iff-lt-mul}
 use Rattle.bits.specs.Bits.{num}
 use Rattle.fold.specs.Output.{bytesOf}
 use Rattle.numbers.specs.Bytes.{leBytes}
-use Rattle.encoder.specs.Count.{pattern}
+use Rattle.encoder_count.specs.Count.{pattern}
 use Rattle.encoder.specs.declared.Encoder.{Encoder}
-use Rattle.encoder.proofs.Wrap.{pattern-lt}
+use Rattle.encoder_count.proofs.Wrap.{pattern-lt}
 use Rattle.pwm.specs.declared.Pwm.{Pwm}
 use Rattle.i2c.specs.declared.I2c.{I2c}
 use Rattle.i2c.specs.I2c.{stateOf}

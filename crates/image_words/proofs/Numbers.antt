@@ -13,11 +13,11 @@ use Rattle.laws.proofs.Table.{at}
 use Rattle.divider.specs.Divider.{dividerOf}
 use Rattle.bits.specs.Bits.{bit}
 use Rattle.records.specs.Record.{pwmCnfg}
-use Rattle.encoder.specs.Count.{pattern, signed}
+use Rattle.encoder_count.specs.Count.{pattern, signed}
 use Rattle.encoder.specs.declared.Encoder.{Encoder}
-use Rattle.encoder.proofs.Wrap.{pattern-lt}
-use Rattle.i2c.specs.declared.Phase.{Phase}
-use Rattle.i2c.specs.declared.Phase.the-variants.{Idle, TxIdle, RxIdle}
+use Rattle.encoder_count.proofs.Wrap.{pattern-lt}
+use Rattle.i2c_code.specs.declared.Phase.{Phase}
+use Rattle.i2c_code.specs.declared.Phase.the-variants.{Idle, TxIdle, RxIdle}
 use Rattle.i2c.specs.declared.I2c.{I2c}
 use Rattle.i2c.specs.I2c.{stateOf}
 use Rattle.image_words.specs.Words.{FitsEncoder}

@@ -6,13 +6,13 @@ use lib.Dec.{eqb, ltb, leb}
 use Rattle.bits.specs.Bits.{bit, num}
 use Rattle.records.specs.Record.{pwmCnfg}
 use Rattle.divider.specs.Divider.{dividerOf}
-use Rattle.encoder.specs.Count.{pattern, signed}
+use Rattle.encoder_count.specs.Count.{pattern, signed}
 use Rattle.encoder.specs.declared.Encoder.{Encoder}
 use Rattle.pwm.specs.declared.Registers.{Registers}
 use Rattle.pwm.specs.declared.Wave.{Wave}
 use Rattle.pwm.specs.declared.Pwm.{Pwm}
-use Rattle.i2c.specs.declared.Phase.{Phase}
-use Rattle.i2c.specs.declared.Phase.the-variants.{Idle, TxIdle, RxIdle}
+use Rattle.i2c_code.specs.declared.Phase.{Phase}
+use Rattle.i2c_code.specs.declared.Phase.the-variants.{Idle, TxIdle, RxIdle}
 use Rattle.i2c.specs.declared.I2c.{I2c}
 use Rattle.i2c.specs.I2c.{stateOf}
 

@@ -9,7 +9,7 @@ use Rattle.bits.specs.Bits.{num}
 use Rattle.fold.specs.Output.{bytesOf}
 use Rattle.numbers.specs.Bytes.{leBytes}
 use Rattle.records.specs.Record.{pwmCnfg}
-use Rattle.encoder.specs.Count.{pattern}
+use Rattle.encoder_count.specs.Count.{pattern}
 use Rattle.encoder.specs.declared.Encoder.{Encoder}
 use Rattle.pwm.specs.declared.Pwm.{Pwm}
 use Rattle.pwm.specs.Facts.{Short}

@@ -2,13 +2,13 @@
 use bits::number;
 use encoder::Encoder;
 use i2c::I2c;
-use i2c::Phase;
+use i2c_code::Phase;
 use pwm::Pwm;
 use pwm::Registers;
 use pwm::Wave;
 ghost use mathlib.Core.Path.{_≡_};
 ghost use Prim.Native.Nat.{_<_};
-ghost use Rattle.encoder.specs.Count.{pattern};
+ghost use Rattle.encoder_count.specs.Count.{pattern};
 ghost use Rattle.i2c.specs.I2c.{stateOf};
 ghost use Rattle.image_words.specs.How.{phaseOf, i2cNumber, i2cOf, isI2c, lowNumber, encoderOf, isEncoder, registersNumber, registersOf, isRegisters, isQuick, waveNumber, waveOf, pwmOf};
 
@@ -35,7 +35,7 @@ pub fn encoder_of(v: u64) -> Encoder
     ensures { λ r. ⌜ r ≡ encoderOf v ⌝ }
 {
     Encoder {
-        count: encoder::count_of((v % 4294967296) as u32),
+        count: encoder_count::count_of((v % 4294967296) as u32),
         cnfg: ((v >> 32) % 256) as u32,
         stat: ((v >> 40) % 256) as u32,
         pins: ((v >> 48) % 256) as u8,

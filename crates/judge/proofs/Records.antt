@@ -18,8 +18,8 @@ use Rattle.records.specs.declared.Record.the-variants.{WriteSelect, WriteEncode
 use Rattle.wire.proofs.Formed.{Formed, formed}
 use Rattle.wire.proofs.Known.{isRead, reads-ask}
 use Rattle.encoder.specs.Encoder.{registerOf}
-use Rattle.encoder.specs.Count.{pattern}
-use Rattle.encoder.proofs.Wrap.{pattern-lt}
+use Rattle.encoder_count.specs.Count.{pattern}
+use Rattle.encoder_count.proofs.Wrap.{pattern-lt}
 use Rattle.bank.specs.declared.Bank.{Bank}
 use Rattle.bank.specs.Bank.{encoderAt}
 use Rattle.bank.specs.Bank as bank

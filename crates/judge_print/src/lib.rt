@@ -12,8 +12,8 @@ fn say_verdict(text: &mut [u8], verdict: Verdict) -> usize
         Verdict::Same => text::put_word(text, 0, b"same\n"),
         Verdict::Negated => text::put_word(text, 0, b"negated\n"),
         Verdict::Both => text::put_word(text, 0, b"both\n"),
-        Verdict::Different(i) => text::different_text(text, i as u64),
-        Verdict::Refused(n) => text::refused_text(text, n as u64),
+        Verdict::Different(i) => text_answers::different_text(text, i as u64),
+        Verdict::Refused(n) => text_answers::refused_text(text, n as u64),
     }
 }
 

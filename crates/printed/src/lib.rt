@@ -19,12 +19,12 @@ pub fn told(text: &mut [u8], refused: u8, index: usize, size: usize) -> Printed
     }
     if refused < 7 {
         return Printed {
-            size: text::refused_text(text, refused as u64),
+            size: text_answers::refused_text(text, refused as u64),
             refused: true,
         };
     }
     Printed {
-        size: text::refused_record_text(text, refused as u64, index as u64),
+        size: text_answers::refused_record_text(text, refused as u64, index as u64),
         refused: true,
     }
 }

@@ -20,7 +20,9 @@ use Rattle.pwm.specs.How.{inv, at, left, moved, often, stepsOf, climbed,
 -- MODE 1: the top is MAX, but for a counter above it that runs on
 module _ (runs : Bool) (g : Registers) (c : ℕ) (e : mode (g .cnfg) ≡ true) where
   top-max : c ≤ g .max → topOf runs g c ≡ g .max
-  top-max h = rw (e, le-ltb (g .max) c h, and-false runs)
+  top-max h =
+      ap (λ (t : Bool). cond (mode (g .cnfg) && not (runs && t)) (g .max) 65535) (le-ltb (g .max) c h)
+      ∙ rw (e, and-false runs)
 
   top-off : runs ≡ false → topOf runs g c ≡ g .max
   top-off z = rw (e, z)
@@ -171,6 +173,10 @@ some-steps runs c max h = by runs (decLe c max) refl
     by b (yes k) z = rw (le-ltb max c k) (omega arith)
     by true (no k) z = rw (z, lt-ltb max c (omega arith)) (omega arith)
     by false (no k) z = rw (z, lt-ltb max c (omega arith)) (omega arith)
+
+-- what the steps of MODE 1 ask
+pub is-mode-1 : (cnfg : ℕ) (b : Bool) → b ≡ mode cnfg → b ≡ true → mode cnfg ≡ true
+is-mode-1 cnfg b m z = sym m ∙ z
 
 module _ (runs : Bool) (q p : Pwm) (s r : ℕ) where
   abbrev g : Registers

@@ -8,16 +8,18 @@ use lib.Dec.{ltb, leb}
 use Rattle.laws.proofs.Cases.{by-lt, by-le}
 use Rattle.divider.specs.Divider.{dividerOf}
 use Rattle.rate.specs.declared.Rule.{Rule}
-use Rattle.rate.specs.declared.Bracket.{Bracket}
-use Rattle.rate.specs.declared.Nearest.{Nearest}
+use Rattle.rate_counts.specs.declared.Bracket.{Bracket}
+use Rattle.rate_counts.specs.declared.Nearest.{Nearest}
 use Rattle.rate.specs.declared.Found.{Found}
 use Rattle.rate.specs.declared.Found.the-variants.{Pair, Refused}
 use Rattle.rate.specs.Rate.{apart, period, IsPair, AsGood, Within, Wins, InRange, Outcome, outside, loose, none, pair, foundNumbers, Answer, pwm, spi}
 use Rattle.rate.specs.Facts.{Settled}
-use Rattle.rate.specs.How.{Fair, Fit, Brackets, Asked, undividedOf, nearerOf, pairOf}
-use Rattle.rate.proofs.Dividers.{some, one, next}
+use Rattle.rate_counts.specs.How.{Fit, Brackets, undividedOf, nearerOf}
+use Rattle.rate_counts.proofs.Around.{first-brackets}
+use Rattle.rate.specs.How.{Fair, Asked, pairOf}
+use Rattle.rate_counts.proofs.Dividers.{some, one, next}
 use Rattle.rate.proofs.Order.{within-near}
-use Rattle.rate.proofs.Sides.{Least, pair-pos, some-count, fewer-best, more-best, shortened, first-brackets, shortened-brackets}
+use Rattle.rate.proofs.Sides.{Least, pair-pos, some-count, fewer-best, more-best, shortened, shortened-brackets}
 
 -- a rate in range is such as the finder takes
 module _ (u : Rule) (fair : Fair u) (f : ℕ) (range : InRange u f) where

@@ -1,5 +1,4 @@
 -- Laws that belong to no one function.
-pub mod Dividers
 pub mod Order
 pub mod Sides
 pub mod Fits

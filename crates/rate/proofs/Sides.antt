@@ -8,10 +8,11 @@ use native.Mathlib.Decide.{decLe}
 use lib.Dec.{ltb}
 use Rattle.laws.proofs.Cases.{by-lt}
 use Rattle.divider.specs.Divider.{dividerOf}
-use Rattle.rate.specs.declared.Bracket.{Bracket}
+use Rattle.rate_counts.specs.declared.Bracket.{Bracket}
 use Rattle.rate.specs.Rate.{apart, IsPair, AsGood}
-use Rattle.rate.specs.How.{Fit, Brackets, undividedOf, coarserOf, short, over}
-use Rattle.rate.proofs.Dividers.{some, most, grow, times, twice, next}
+use Rattle.rate_counts.specs.How.{Fit, Brackets, coarserOf, short, over}
+use Rattle.rate_counts.proofs.Around.{more, coarser-brackets}
+use Rattle.rate_counts.proofs.Dividers.{some, most, grow, times, twice, next}
 use Rattle.rate.proofs.Order.{trans, longer, shorter}
 
 -- the next bracket, coarser until the count is short enough, at most i times
@@ -20,65 +21,6 @@ shortened zero a = a
 shortened (suc i) a = cond (ltb (a .low) 65_536) a (shortened i (coarserOf a))
 
 module _ (C s : ℕ) (fit : Fit C s) where
-  pub first-some : 0 < s
-  first-some = fit .some
-
-  pub first-brackets : Brackets C s (undividedOf C s)
-  first-brackets =
-      record {
-        some = omega arith;
-        most = omega arith;
-        divides = refl;
-        small = omega arith;
-        around =
-            record {
-              clock = fit .clock;
-              wide = omega (arith, fit .wide);
-              under = omega (arith, le-div-iff-mul-le first-some .0 (le-refl (C / s)));
-              past = omega (arith, div-lt-iff-lt-mul {x = C} {y = C / s + 1} first-some .0 (omega arith));
-            };
-        full = λ h. absurd (omega arith);
-      }
-
-  -- the last divider reaches all
-  more : (a : Bracket) → Brackets C s a → 65_536 ≤ a .low → a .choice < 7
-  more a h l = by (decLe (a .choice) 6)
-    where
-      by : Dec (a .choice ≤ 6) → a .choice < 7
-      by (yes t) = omega arith
-      by (no t) =
-          let e : a .choice ≡ 7 = omega (arith, h .most) in
-          let g : a .divider ≡ 64 = h .divides ∙ ap dividerOf e in
-          let j : s * a .divider ≡ s * 64 = ap (λ (d : ℕ). s * d) g in
-          omega (arith, h .around .under, mul-le-mul-left (s * a .divider) l, fit .reach)
-
-  pub coarser-brackets : (a : Bracket) → Brackets C s a → 65_536 ≤ a .low → Brackets C s (coarserOf a)
-  coarser-brackets a h l =
-      record {
-        some = omega arith;
-        most = omega (arith, more a h l);
-        divides = divides;
-        small = rw divides (most (a .choice + 1) (omega arith) (omega (arith, more a h l)));
-        around =
-            record {
-              clock = fit .clock;
-              wide = omega (arith, fit .clock, h .around .under, mul-le-mul-left (s * a .divider) l);
-              under = omega (arith, h .around .under, mul-le-mul-left (s * a .divider) half);
-              past = omega (arith, h .around .past, mul-le-mul-left (s * a .divider) whole);
-            };
-        full = λ t. omega arith;
-      }
-    where
-      half : 2 * (a .low / 2) ≤ a .low
-      half = omega arith
-
-      whole : a .low + 1 ≤ 2 * (a .low / 2 + 1)
-      whole = omega arith
-
-      divides : 2 * a .divider ≡ dividerOf (a .choice + 1)
-      divides = rw (next (a .choice) (h .some) (more a h l), h .divides)
-
-  -- a count that is short enough is reached in six turns
   abbrev Short : Bracket → Type 0
   Short b = Brackets C s b × (b .low < 65_536)
 
@@ -86,10 +28,10 @@ module _ (C s : ℕ) (fit : Fit C s) where
   shortened-brackets zero a h e = (h, at-last (decLe 65_536 (a .low)))
     where
       at-last : Dec (65_536 ≤ a .low) → a .low < 65_536
-      at-last (yes t) = absurd (omega (arith, more a h t))
+      at-last (yes t) = absurd (omega (arith, more C s fit a h t))
       at-last (no t) = omega arith
   shortened-brackets (suc i) a h e =
-      by-lt Short (a .low) 65_536 (λ l. (h, l)) (λ l. shortened-brackets i (coarserOf a) (coarser-brackets a h l) (omega arith))
+      by-lt Short (a .low) 65_536 (λ l. (h, l)) (λ l. shortened-brackets i (coarserOf a) (coarser-brackets C s fit a h l) (omega arith))
 
 -- no count at all is never the nearer
 pub some-count : (C s m : ℕ) → 0 < C → short C s m * (m + 1) ≤ over C s m * m → 1 ≤ m

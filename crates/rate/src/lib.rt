@@ -1,9 +1,13 @@
 // The rate finder: the divider choice and X whose rate is nearest to a wanted one, and the rate that a choice and X give.
 ghost use mathlib.Core.Path.{_≡_};
-ghost use Prim.Native.Nat.{_≤_, _<_, _^_};
+ghost use Prim.Native.Nat.{_≤_, _<_};
 ghost use Rattle.rate.specs.Rate.{pwm, spi, rateOf, ratedNumbers, Answer};
-ghost use Rattle.rate.specs.How.{Fair, Fit, Brackets, Around, Asked, undividedOf, coarserOf, nearerOf, pairOf};
+ghost use Rattle.rate.specs.How.{Fair, Asked, pairOf};
 use divider::divider;
+use rate_counts::Bracket;
+use rate_counts::finest;
+use rate_counts::nearer;
+use rate_counts::undivided;
 
 // The clock's rate in hertz, for rates from registers; its rate and the range of wanted rates, all in the unit of these; the factor of a
 // period. PWM and SPI differ in the range and the factor.
@@ -26,20 +30,6 @@ pub enum Rated {
     Unset(u8),
 }
 
-// A divider choice, what it divides by, and its counts next to the wanted rate: `low` counts are at or under the clock's rate, one more is
-// past it.
-struct Bracket {
-    choice: u64,
-    divider: u64,
-    low: u64,
-}
-
-// A count, and how far it is from the clock's rate.
-struct Nearest {
-    count: u64,
-    miss: u64,
-}
-
 const PWM: Rule = Rule {
     hertz: 40_000_000,
     clock: 40_000_000_000,
@@ -55,63 +45,6 @@ const SPI: Rule = Rule {
     high: 4_000_000_000,
     base: 2,
 };
-
-// The bracket of the clock undivided. A step is the wanted rate times the ticks of a count.
-fn undivided(clock: u64, step: u64) -> Bracket
-    requires { ⌜ 0 < step ⌝ }
-    ensures { λ r. ⌜ r ≡ undividedOf clock step ⌝ }
-{
-    Bracket {
-        choice: 1,
-        divider: 1,
-        low: clock / step,
-    }
-}
-
-// The bracket of the next coarser divider.
-fn coarser(a: Bracket) -> Bracket
-    requires { ⌜ (a .choice < 8) × (a .divider < 2 ^ 63) ⌝ }
-    ensures { λ r. ⌜ r ≡ coarserOf a ⌝ }
-{
-    Bracket {
-        choice: a.choice + 1,
-        divider: 2 * a.divider,
-        low: a.low / 2,
-    }
-}
-
-// The bracket of the finest divider whose counts go past the clock's rate.
-fn finest(clock: u64, step: u64) -> Bracket
-    requires { ⌜ Fit clock step ⌝ }
-    ensures { λ r. ⌜ (Brackets clock step r) × (r .low < 65_536) ⌝ }
-{
-    let mut a = undivided(clock, step);
-    while 65_536 <= a.low {
-        a = coarser(a);
-    }
-    a
-}
-
-// The nearer of the bracket's two counts, the fewer where both are as near. Errors are fractions, so each is crossed with the other's count.
-// Crossed with the other's steps, which comes to the same, the products outgrow 64 bits.
-fn nearer(clock: u64, step: u64, low: u64) -> Nearest
-    requires { ⌜ Around clock step low ⌝ }
-    ensures { λ r. ⌜ r ≡ nearerOf clock step low ⌝ }
-{
-    let under = step * low;
-    let short = clock - under;
-    let over = step - short;
-    if short * (low + 1) <= over * low {
-        return Nearest {
-            count: low,
-            miss: short,
-        };
-    }
-    Nearest {
-        count: low + 1,
-        miss: over,
-    }
-}
 
 // The pair of a choice and a count, with the smaller divider where two make the same period.
 fn pair(choice: u64, count: u64, period: u64) -> Found

@@ -36,8 +36,8 @@ fn say_found(text: &mut [u8], found: Found) -> usize
     ensures { λ r. ⌜ Put (now (text .entry)) 0 (foundText found) (now (text .exit)) r ⌝ }
 {
     match found {
-        Found::Pair { choice, x, period } => text::pair_text(text, choice, x, period),
-        Found::Refused(n) => text::refused_text(text, n as u64),
+        Found::Pair { choice, x, period } => text_answers::pair_text(text, choice, x, period),
+        Found::Refused(n) => text_answers::refused_text(text, n as u64),
     }
 }
 
@@ -45,8 +45,8 @@ fn say_rated(text: &mut [u8], rated: Rated) -> usize
     ensures { λ r. ⌜ Put (now (text .entry)) 0 (ratedText rated) (now (text .exit)) r ⌝ }
 {
     match rated {
-        Rated::Ratio { clock, period } => text::rate_text(text, clock, period),
-        Rated::Unset(n) => text::refused_text(text, n as u64),
+        Rated::Ratio { clock, period } => text_answers::rate_text(text, clock, period),
+        Rated::Unset(n) => text_answers::refused_text(text, n as u64),
     }
 }
 
@@ -54,10 +54,10 @@ fn say_pair(text: &mut [u8], spi: bool, a: Decimal, b: Decimal) -> usize
     ensures { λ r. ⌜ PairSaid (ruleOf spi) a b (now (text .entry)) (now (text .exit)) r ⌝ }
 {
     let Decimal::Number(rate) = a else {
-        return text::no_number_text(text, b"RATE");
+        return text_answers::no_number_text(text, b"RATE");
     };
     let Decimal::Number(tolerance) = b else {
-        return text::no_number_text(text, b"TOL");
+        return text_answers::no_number_text(text, b"TOL");
     };
     if spi {
         return say_found(text, rate::find_spi(rate, tolerance));
@@ -69,10 +69,10 @@ fn say_rate(text: &mut [u8], spi: bool, a: Decimal, b: Decimal) -> usize
     ensures { λ r. ⌜ RateSaid (ruleOf spi) a b (now (text .entry)) (now (text .exit)) r ⌝ }
 {
     let Decimal::Number(choice) = a else {
-        return text::no_number_text(text, b"CHOICE");
+        return text_answers::no_number_text(text, b"CHOICE");
     };
     let Decimal::Number(x) = b else {
-        return text::no_number_text(text, b"X");
+        return text_answers::no_number_text(text, b"X");
     };
     if spi {
         return say_rated(text, rate::spi_rate(choice, x));

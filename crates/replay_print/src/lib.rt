@@ -15,7 +15,7 @@ pub fn replay_log(text: &mut [u8], log: &[u8]) -> usize
     let mut out = [0u8; 16384];
     let stop = replay::replay(log, &mut out);
     let n = 8 * stop.readings;
-    text::replay_text(text, &out[..n], stop.applied as u64, stop.refused as u64)
+    text_readings::replay_text(text, &out[..n], stop.applied as u64, stop.refused as u64)
 }
 
 // One byte more than a log may have, so that an over-long one shows.

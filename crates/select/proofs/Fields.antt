@@ -5,9 +5,10 @@ use mathlib.Core.Bool.{Bool, true, false, _&&_}
 use Prim.Native.Nat.{ℕ, suc, _+_, _*_, _/_, _%_, _^_, _<_, _≤_}
 use native.Mathlib.Nat.{div-div-eq-div-mul}
 use native.Mathlib.Omega.{arith}
-use borrow.Author.Tests.{lt-ltb, le-ltb, eq-eqb, ne-eqb, eqb-true, eqb-false}
+use borrow.Author.Tests.{le-ltb, eq-eqb, ne-eqb, eqb-true, eqb-false}
 use lib.Dec.{eqb}
 use lib.Arith.{mod-mul}
+use Rattle.select_allowed.proofs.Pins.{inside}
 use Rattle.select.specs.Select.{fieldOf, encoderRouted, pwmRouted, i2cRouted}
 
 -- two neighbouring fields of two bits make four bits
@@ -19,10 +20,6 @@ twice : (h l n : ℕ) → l < 4 → n < 4 → (p q : Bool) → eqb l n ≡ p →
 twice h l n k m true true p q = eq-eqb (h * 4 + l) (5 * n) (omega (arith, eqb-true l n p, eqb-true h n q))
 twice h l n k m true false p q = ne-eqb (h * 4 + l) (5 * n) (λ e. eqb-false h n q (omega (arith, eqb-true l n p)))
 twice h l n k m false b p q = ne-eqb (h * 4 + l) (5 * n) (λ e. eqb-false l n p (omega arith))
-
-pub inside : (select pin : ℕ) → pin < 20 → select / 2 ^ (2 * pin) % 4 ≡ fieldOf select pin
-unfolding fieldOf
-inside select pin h = rw (lt-ltb pin 20 h)
 
 pub past : (select pin : ℕ) → 20 ≤ pin → fieldOf select pin ≡ 0
 unfolding fieldOf

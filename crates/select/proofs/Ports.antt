@@ -6,16 +6,13 @@ use Prim.Native.Nat.{ℕ, zero, suc, _+_, _*_, _/_, _%_, _^_, _<_, _≤_}
 use native.Mathlib.Omega.{arith}
 use lib.Dec.{eqb}
 use borrow.Author.Tests.{le-ltb}
-use Rattle.select.specs.Select.{fieldOf, allowed, encoderRouted, pwmRouted, i2cRouted}
-use Rattle.select.specs.How.{threes, twos, ones, pwmPins}
-use Rattle.select.proofs.Quick.{serial, paired, quick}
+use Rattle.select.specs.Select.{fieldOf, encoderRouted, pwmRouted, i2cRouted}
+use Rattle.select_allowed.specs.How.{ones}
+use Rattle.select.specs.How.{pwmPins}
 use Rattle.select.proofs.Fields.{pair-routed, no-pair, i2c-pins}
 
 module _ (port : Bool) (select : ℕ) where
   module _ (p : port ≡ true) where
-    pub port-allowed : true ≡ allowed port select
-    port-allowed = rw p
-
     pub port-encoder : (i : ℕ) → (eqb i 0 && eqb (select / 2 ^ 5 % 2) 1) ≡ encoderRouted port select i
     port-encoder i = rw p
 
@@ -29,9 +26,6 @@ module _ (port : Bool) (select : ℕ) where
     port-pins = rw p
 
   module _ (p : port ≡ false) where
-    pub pins-allowed : (t e : ℕ) → t ≡ threes select → e ≡ twos select → (serial t && paired e) ≡ allowed port select
-    pins-allowed t e q r = quick select t e q r ∙ ap (λ (b : Bool). allowed b select) (sym p)
-
     pub pins-encoder : (i : ℕ) → i < 10 → eqb (select / 2 ^ (4 * i) % 16) 10 ≡ encoderRouted port select i
     pins-encoder i h = pair-routed select i h ∙ ap (λ (b : Bool). encoderRouted b select i) (sym p)
 

@@ -10,9 +10,10 @@ use lib.Dec.{eqb}
 use borrow.Author.Tests.{le-ltb}
 use Rattle.bits.specs.Bits.{num}
 use Rattle.select.specs.Select.{fieldOf, pwmRouted}
-use Rattle.select.specs.How.{marks, pwmPins}
-use Rattle.select.proofs.Marks.{mark}
-use Rattle.select.proofs.Fields.{inside}
+use Rattle.select_allowed.specs.How.{marks}
+use Rattle.select_allowed.proofs.Marks.{mark}
+use Rattle.select_allowed.proofs.Pins.{inside}
+use Rattle.select.specs.How.{pwmPins}
 
 is-one : (b : Bool) → b ≡ eqb (num b) 1
 is-one true = refl

@@ -1,24 +1,9 @@
 -- How the code gets there: all pins at once, in a number with one place for each pin.
 -- Assumes nothing.
-use Prim.Native.Nat.{ℕ, zero, suc, _+_, _*_, _/_, _%_}
+use Prim.Native.Nat.{ℕ, _+_, _*_, _/_, _%_}
 use mathlib.Core.Bool.{Bool, cond}
-use lib.Dec.{eqb}
-use Rattle.bits.specs.Bits.{num}
+use Rattle.select_allowed.specs.How.{ones}
 
--- the first n pins with 1 for each whose field passes the test, 0 for the others; two bits per pin, as in a SELECT
-unfoldable pub marks : (ℕ → Bool) → ℕ → ℕ → ℕ
-marks f zero select = 0
-marks f (suc n) select = marks f n (select / 4) * 4 + num (f (select % 4))
-
-abbrev pub threes : ℕ → ℕ
-threes = marks (λ field. eqb field 3) 20
-
-abbrev pub twos : ℕ → ℕ
-twos = marks (λ field. eqb field 2) 20
-
-abbrev pub ones : ℕ → ℕ
-ones = marks (λ field. eqb field 1) 20
-
--- the PWM channels that are routed, in the same places; a port's are in bits 2, 3 and 4
+-- the PWM channels that are routed, two bits per pin, as in a SELECT; a port's are in bits 2, 3 and 4
 abbrev pub pwmPins : Bool → ℕ → ℕ
 pwmPins port select = cond port (select / 4 % 2 + select / 8 % 2 * 4 + select / 16 % 2 * 16) (ones select)

@@ -5,10 +5,10 @@ use mathlib.Core.Bool.{Bool, true}
 use Prim.Native.Nat.{ℕ, zero, suc, _<_}
 use lib.IntN.{_+ℤ_, +ℤ-idr}
 use lib.Signed.{mag}
-use Rattle.encoder.specs.Count.{wrap}
+use Rattle.encoder_count.specs.Count.{wrap}
 use Rattle.encoder.specs.Encoder.{places, quadrature, onPins, countsInQuadrature}
 use Rattle.encoder.specs.declared.Encoder.{Encoder}
-use Rattle.encoder.proofs.Wrap.{wrap-fits}
+use Rattle.encoder_count.proofs.Wrap.{wrap-fits}
 use Rattle.encoder.proofs.Counting.{pins-quadrature}
 use Rattle.shaft.specs.Shaft.{stepOf}
 

@@ -35,7 +35,7 @@ pub fn chunk_text(text: &mut [u8], s: Stream, bytes: &[u8]) -> Shown
     let stream = chunked.stream;
     Shown {
         stream: stream,
-        size: text::put_readings(text, &out[..n]),
+        size: text_readings::put_readings(text, &out[..n]),
     }
 }
 
@@ -123,7 +123,7 @@ pub fn stream_input(text: &mut [u8]) -> Printed
     let n = os::arg(2, &mut word);
     let Decimal::Number(number) = decimal::read(&word[..n]) else {
         return Printed {
-            size: text::no_number_text(text, b"EDITION"),
+            size: text_answers::no_number_text(text, b"EDITION"),
             refused: true,
         };
     };

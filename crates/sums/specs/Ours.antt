@@ -4,12 +4,12 @@ use mathlib.Core.Path.{_≡_}
 use mathlib.Core.Bool.{true, false}
 use mathlib.Core.List.{[], _∷_}
 use lib.IntN.{pos, negsuc, _+ℤ_}
-use Rattle.encoder.specs.Count.{pattern, wrap}
+use Rattle.encoder_count.specs.Count.{pattern, wrap}
 use Rattle.encoder.specs.Encoder.{marked}
 use Rattle.encoder.specs.Facts.{played}
 use Rattle.pwm.specs.Pwm.{nextOf}
 use Rattle.fold.specs.Turn.{refused}
-use Rattle.i2c.specs.declared.Phase.the-variants.{TxIdle}
+use Rattle.i2c_code.specs.declared.Phase.the-variants.{TxIdle}
 use Rattle.i2c.specs.I2c.{onAddr, onCntl, onAnswer, ran, goTurn, fresh}
 use Rattle.sums.specs.Paper.{enabled, started}
 

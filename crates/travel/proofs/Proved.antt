@@ -17,9 +17,9 @@ use Rattle.fold.specs.Device.{records}
 use Rattle.fold.proofs.Laws as laws
 use Rattle.fold.proofs.Runs.{first-applied, goes-applies}
 use Rattle.edition.specs.declared.Edition.{Edition}
-use Rattle.encoder.specs.Count.{pattern, signed, wrap}
+use Rattle.encoder_count.specs.Count.{pattern, signed, wrap}
 use Rattle.encoder.specs.Encoder.{countsInQuadrature, statOf}
-use Rattle.encoder.proofs.Wrap.{pattern-lt, pattern-wrap, pattern-add-wrap, wrap-fits}
+use Rattle.encoder_count.proofs.Wrap.{pattern-lt, pattern-wrap, pattern-add-wrap, wrap-fits}
 use Rattle.shaft.specs.Shaft.{travel, steps, gapOf}
 use Rattle.shaft.proofs.Balance.{AllPins}
 use Rattle.shaft.proofs.Motions.{gaps, sign}

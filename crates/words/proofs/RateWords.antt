@@ -13,7 +13,7 @@ use Rattle.rate.specs.declared.Rated.{Rated}
 use Rattle.rate.specs.declared.Rated.the-variants.{Ratio, Unset}
 use Rattle.rate.specs.Rate.{pwm, spi, Outcome, outside, loose, none, pair, Answer, foundNumbers, period, rateOf, ratedNumbers}
 use Rattle.rate.specs.How.{Fair}
-use Rattle.rate.proofs.Dividers.{most}
+use Rattle.rate_counts.proofs.Dividers.{most}
 use Rattle.rate.proofs.Answers.{same-numbers}
 use Rattle.words.specs.Word.{foundIn, ratedIn}
 use Rattle.words.specs.How.{findWord, rateWord}

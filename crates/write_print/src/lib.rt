@@ -21,7 +21,7 @@ pub fn write_log(text: &mut [u8], edition: Decimal, notes: &[u8], records: &[u8]
     ensures { λ r. ⌜ WritePrinted edition (now (notes .entry)) (now (records .entry)) (now (text .exit)) r ⌝ }
 {
     let Decimal::Number(number) = edition else {
-        let n = text::no_number_text(text, b"EDITION");
+        let n = text_answers::no_number_text(text, b"EDITION");
         return Printed {
             size: n,
             refused: true,

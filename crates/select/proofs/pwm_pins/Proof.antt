@@ -1,5 +1,5 @@
 use Rattle.select.proofs.Ports.{port-pins, pins-pins}
-use Rattle.select.proofs.Marks.{ones-found}
+use Rattle.select_allowed.proofs.Marks.{ones-found}
 use native.Mathlib.Omega.{arith}
 use Rattle.select.proofs.pwm_pins.Statement.{statement}
 use Rattle.select.proofs.pwm_pins.Tie as tie

@@ -10,4 +10,5 @@ write-cnfg-spec =
     (tie.spec
     (λ c κs. search needs)
     (λ c κs. search needs)
+    (λ c κs. search needs)
     (λ c. search configured))

@@ -1,5 +1,5 @@
 use borrow.Author.Needs.{needs}
-use Rattle.pwm.proofs.Rounds.{low}
+use Rattle.pwm.proofs.Rounds.{low, is-mode-1}
 use Rattle.pwm.proofs.Pwm.steps.Statement.{statement}
 use Rattle.pwm.proofs.Pwm.steps.Tie as tie
 
@@ -8,7 +8,7 @@ steps-spec =
     tie.close
     (tie.spec
     (λ c κs. search needs)
-    (λ c κs. cc)
+    (λ c κs. search is-mode-1)
     (λ c. search needs)
     (λ c. search needs)
     (λ c κs. search needs)

@@ -1,0 +1,3 @@
+mod States
+pub mod Answers
+pub mod Proved

@@ -1,0 +1,3 @@
+pub mod Dividers
+pub mod Around
+mod Fits

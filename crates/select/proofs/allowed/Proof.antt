@@ -1,8 +1,0 @@
-use Rattle.select.proofs.Ports.{port-allowed, pins-allowed}
-use Rattle.select.proofs.Quick.{fits}
-use borrow.Author.Needs.{needs}
-use Rattle.select.proofs.allowed.Statement.{statement}
-use Rattle.select.proofs.allowed.Tie as tie
-
-pub allowed-spec : {M : Type 1} → statement M
-allowed-spec = tie.close (tie.spec (λ c. search port-allowed) (λ c κs. search needs) (λ c κs. search needs) (λ c. search fits) (λ c. search pins-allowed))

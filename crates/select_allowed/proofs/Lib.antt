@@ -1,0 +1,5 @@
+pub mod Pins
+mod Some
+pub mod Marks
+mod Quick
+mod Means
