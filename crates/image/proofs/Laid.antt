@@ -11,7 +11,7 @@ use Rattle.pwm.specs.Pwm as pwm
 use Rattle.bank.specs.declared.Bank.{Bank}
 use Rattle.banks.specs.declared.State.{State}
 use Rattle.banks.specs.State.{bankAt}
-use Rattle.live.specs.Live.{Live}
+use Rattle.live_state.specs.Live.{Live}
 use Rattle.codec.specs.How.{saveWord, saveMany, Each}
 use Rattle.codec.proofs.Each.{get-each}
 use Rattle.image_words.specs.Words.{i2cBytes, encoderBytes, pwmBytes, FitsEncoder, FitsPwm}

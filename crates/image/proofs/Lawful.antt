@@ -18,7 +18,7 @@ use Rattle.pwm.specs.Facts.{Short}
 use Rattle.i2c.specs.declared.I2c.{I2c}
 use Rattle.banks.specs.declared.Flat.{Flat}
 use Rattle.banks.specs.How.{stateOf}
-use Rattle.live.specs.Live.{Live}
+use Rattle.live_state.specs.Live.{Live}
 use Rattle.codec.specs.How.{Lawful, Number, loadWord, okWord, saveMany, loadMany, okMany, Each, FitMany}
 use Rattle.codec.proofs.Word.{word-lawful, any-number, byte-lawful}
 use Rattle.codec.proofs.Many.{many-lawful, both}

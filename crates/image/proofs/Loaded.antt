@@ -8,7 +8,7 @@ use native.Mathlib.Omega.{arith}
 use lib.ListN.{length, take, drop, length-append, take-append-drop}
 use Rattle.codec.specs.How.{Bytes}
 use Rattle.codec.proofs.Build.{loads-back, passes-own, is-image}
-use Rattle.live.specs.Live.{Live}
+use Rattle.live_state.specs.Live.{Live}
 use Rattle.image.specs.Image.{imageOf, Fits, Stands}
 use Rattle.image.specs.How.{loadOf, isState}
 use Rattle.image.proofs.Lawful.{stream-lawful}

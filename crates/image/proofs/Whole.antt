@@ -19,8 +19,8 @@ use Rattle.banks.specs.declared.State.{State}
 use Rattle.banks.specs.declared.Flat.{Flat}
 use Rattle.banks.specs.How.{stateOf}
 use Rattle.banks.proofs.Whole.{Whole}
-use Rattle.live.specs.declared.Stream.{Stream}
-use Rattle.live.specs.How.{liveOf}
+use Rattle.live_state.specs.declared.Stream.{Stream}
+use Rattle.live_state.specs.How.{liveOf}
 use Rattle.image_words.specs.Words.{FitsEncoder}
 use Rattle.image_words.specs.How.{i2cNumber, i2cOf, isI2c, encoderNumber, lowNumber, encoderOf, isEncoder, isRegisters, isSelect}
 use Rattle.image_words.proofs.Numbers.{low-number}

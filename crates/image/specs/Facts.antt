@@ -4,7 +4,7 @@ use Prim.Native.Nat.{ℕ, _<_}
 use mathlib.Core.Path.{_≡_}
 use lib.ListN.{length}
 use Rattle.wire.specs.Bytes.{byte}
-use Rattle.live.specs.Live.{Live}
+use Rattle.live_state.specs.Live.{Live}
 use Rattle.image.specs.Image.{size, imageOf, Fits}
 
 -- a stream's image has exactly that many bytes, and no other stream has it: at most one stands in any bytes

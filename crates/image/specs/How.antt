@@ -16,9 +16,9 @@ use Rattle.banks.specs.declared.Flat.{Flat}
 use Rattle.banks.specs.State.{bankAt}
 use Rattle.banks.specs.How.{stateOf}
 use Rattle.banks.proofs.Whole.{Whole}
-use Rattle.live.specs.Live.{Live}
-use Rattle.live.specs.declared.Stream.{Stream}
-use Rattle.live.specs.How.{liveOf}
+use Rattle.live_state.specs.Live.{Live}
+use Rattle.live_state.specs.declared.Stream.{Stream}
+use Rattle.live_state.specs.How.{liveOf}
 use Rattle.codec.specs.How.{saveWord, loadWord, okWord, saveMany, loadMany, okMany}
 use Rattle.image_words.specs.How.{isSelect, i2cNumber, i2cOf, isI2c, encoderNumber, encoderOf, isEncoder, registersNumber, waveNumber, pwmOf, isRegisters, isWave, isShort, isQuick}
 use Rattle.image.specs.Image.{size, FitsBank, Fits}

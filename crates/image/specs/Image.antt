@@ -14,7 +14,7 @@ use Rattle.edition.specs.Edition.{known}
 use Rattle.bank.specs.declared.Bank.{Bank}
 use Rattle.bank.specs.Bank.{encoderAt, pwmAt}
 use Rattle.banks.specs.State.{bankAt}
-use Rattle.live.specs.Live.{Live}
+use Rattle.live_state.specs.Live.{Live}
 use Rattle.image_words.specs.Words.{i2cBytes, FitsI2c, encoderBytes, FitsEncoder, pwmBytes, FitsPwm}
 
 -- RVZ_STREAM_BYTES

@@ -14,8 +14,8 @@ use Rattle.edition.specs.Edition.{known, editionOf}
 use Rattle.wire.specs.Bytes.{readsIn}
 use Rattle.banks.specs.declared.State.{State}
 use Rattle.walk.specs.Turn.{turnOf}
-use Rattle.live.specs.Live.{Live, Taken, freshOf, takenOf, chunkOf}
-use Rattle.live.specs.How.{finished}
+use Rattle.live_state.specs.Live.{Live, Taken, freshOf, takenOf, chunkOf}
+use Rattle.live_state.specs.How.{finished}
 use Rattle.codec.specs.How.{Bytes}
 use Rattle.codec.proofs.Has.{bytes-both}
 use Rattle.image.specs.Image.{Fits}

@@ -11,7 +11,7 @@ use lib.Seq.{take-at, getD-append-add}
 use Rattle.fold.specs.Output.{over}
 use Rattle.wire.specs.Bytes.{byte}
 use Rattle.edition.specs.Edition.{known}
-use Rattle.live.specs.Live.{Live, Taken, freshOf, chunkOf}
+use Rattle.live_state.specs.Live.{Live, Taken, freshOf, chunkOf}
 use Rattle.live_cut.specs.Cut.{Lent, bytesIn, streamed}
 use Rattle.live_cut.proofs.Proved.{cuts}
 use Rattle.image.specs.Image.{size, imageOf, Fits, Stands}

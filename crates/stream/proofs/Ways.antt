@@ -12,10 +12,10 @@ use mir.Val as val
 use Rattle.fold.specs.Output.{over}
 use Rattle.edition.specs.Edition.{known}
 use Rattle.wire.specs.Bytes.{leOf}
-use Rattle.live.specs.Live.{Live, freshOf, chunkOf, endOf}
-use Rattle.live.specs.How.{liveOf, Good, Comes, writtenBy}
-use Rattle.live.specs.declared.Stream.{Stream}
-use Rattle.live.specs.declared.Chunked.{Chunked}
+use Rattle.live_state.specs.Live.{Live, freshOf, chunkOf, endOf}
+use Rattle.live_state.specs.How.{liveOf, Good, Comes, writtenBy}
+use Rattle.live_state.specs.declared.Stream.{Stream}
+use Rattle.live_state.specs.declared.Chunked.{Chunked}
 use Rattle.codec.specs.How.{Bytes}
 use Rattle.image.specs.Image.{size, imageOf, Fits, Stands}
 use Rattle.image.specs.How.{loadOf, isState, Loads, Saves}

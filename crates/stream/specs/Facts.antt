@@ -6,7 +6,7 @@ use mathlib.Core.List.{List, [], _∷_, _++_}
 use lib.ListN.{length}
 use Rattle.fold.specs.Output.{over}
 use Rattle.wire.specs.Bytes.{byte}
-use Rattle.live.specs.Live.{Live, freshOf, takenOf, chunkOf}
+use Rattle.live_state.specs.Live.{Live, freshOf, takenOf, chunkOf}
 use Rattle.live_cut.specs.Cut.{Lent, bytesIn, Roomy}
 use Rattle.image.specs.Image.{imageOf, Stands}
 use Rattle.stream.specs.Stream.{startOf, startedIn, On}

@@ -4,7 +4,7 @@ ghost use mathlib.Core.Path.{_≡_};
 ghost use lib.ListN.{length};
 ghost use Rattle.fold.specs.Output.{bytesOf, over};
 ghost use Rattle.wire.specs.Bytes.{leBytes};
-ghost use Rattle.live.specs.Live.{chunkOf, endOf};
+ghost use Rattle.live_state.specs.Live.{chunkOf, endOf};
 ghost use Rattle.image.specs.Image.{imageOf};
 ghost use Rattle.stream.specs.Stream.{startOf, startedIn, On};
 
@@ -22,7 +22,7 @@ pub fn start(edition: u64, state: &mut [u8]) -> u8
         if state.len() < 864 {
             return 6;
         }
-        image::save(live::start(edition), state);
+        image::save(live_state::start(edition), state);
         return 0;
     }
     4
@@ -52,7 +52,7 @@ pub fn end(state: &[u8]) -> u8
     ensures { λ r. ⌜ On (now (state .entry)) (λ l. r ≡ endOf l) (r ≡ 19) ⌝ }
 {
     if image::is_state(state) {
-        return live::end(image::load(state));
+        return live_state::end(image::load(state));
     }
     19
 }

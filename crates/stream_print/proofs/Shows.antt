@@ -22,11 +22,11 @@ use Rattle.text.specs.Text.{linesOf, readingsIn, stopText}
 use Rattle.text.proofs.Room.{lines-below}
 use Rattle.printed.proofs.Prints.{put-counts}
 use Rattle.printed.proofs.Readings.{long-bytes, readings-back}
-use Rattle.live.specs.Live.{Live, Taken, freshOf, takenOf, chunkOf, endOf}
-use Rattle.live.specs.How.{finished, liveOf, Good, Comes, writtenBy}
-use Rattle.live.specs.declared.Stream.{Stream}
-use Rattle.live.specs.declared.Chunked.{Chunked}
-use Rattle.live.proofs.Ways.{Way, again, taken, not-taken, with-room, way}
+use Rattle.live_state.specs.Live.{Live, Taken, freshOf, takenOf, chunkOf, endOf}
+use Rattle.live_state.specs.How.{finished, liveOf, Good, Comes, writtenBy}
+use Rattle.live_state.specs.declared.Stream.{Stream}
+use Rattle.live_state.specs.declared.Chunked.{Chunked}
+use Rattle.live_state.proofs.Ways.{Way, again, taken, not-taken, with-room, way}
 use Rattle.stream_print.specs.Shown.{arrived, shownOf, lastOf}
 use Rattle.stream_print.specs.How.{Ready}
 

@@ -1,7 +1,7 @@
 use borrow.Author.Needs.{needs}
-use Rattle.live.proofs.Steps.{carry-live, carry-good}
-use Rattle.live.proofs.carry.Statement.{statement}
-use Rattle.live.proofs.carry.Tie as tie
+use Rattle.live_state.proofs.Steps.{carry-live, carry-good}
+use Rattle.live_state.proofs.carry.Statement.{statement}
+use Rattle.live_state.proofs.carry.Tie as tie
 
 pub carry-spec : {M : Type 1} → statement M
 carry-spec =

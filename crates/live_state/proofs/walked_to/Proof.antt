@@ -1,7 +1,7 @@
 use borrow.Author.Needs.{needs}
-use Rattle.live.proofs.Steps.{walked-told}
-use Rattle.live.proofs.walked_to.Statement.{statement}
-use Rattle.live.proofs.walked_to.Tie as tie
+use Rattle.live_state.proofs.Steps.{walked-told}
+use Rattle.live_state.proofs.walked_to.Statement.{statement}
+use Rattle.live_state.proofs.walked_to.Tie as tie
 
 pub walked-to-spec : {M : Type 1} → statement M
 walked-to-spec =

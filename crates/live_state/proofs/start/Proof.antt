@@ -1,7 +1,7 @@
 use borrow.Author.Needs.{needs}
-use Rattle.live.proofs.Steps.{start-live, start-good}
-use Rattle.live.proofs.start.Statement.{statement}
-use Rattle.live.proofs.start.Tie as tie
+use Rattle.live_state.proofs.Steps.{start-live, start-good}
+use Rattle.live_state.proofs.start.Statement.{statement}
+use Rattle.live_state.proofs.start.Tie as tie
 
 pub start-spec : {M : Type 1} → statement M
 start-spec =
