@@ -62,7 +62,13 @@ pub fn behind(carried: [u8; 16], at: usize, bytes: &[u8], from: usize, n: usize)
 }
 
 // A stream after a walk of records behind those that were applied before, and the bytes that are carried on.
-pub fn walked_to(edition: u64, applied: u64, walked: Walked, carried: [u8; 16], held: usize) -> Chunked
+pub fn walked_to(
+    edition: u64,
+    applied: u64,
+    walked: Walked,
+    carried: [u8; 16],
+    held: usize,
+) -> Chunked
     ensures { λ r. ⌜ r ≡ walkedTo edition applied walked carried held ⌝ }
 {
     let flat = walked.flat;
