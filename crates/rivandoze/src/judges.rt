@@ -2,9 +2,9 @@
 // of the first reading that differs.
 ghost use mathlib.Core.Path.{_≡_};
 ghost use Prim.Native.Nat.{_<_};
-ghost use Rattle.judge.specs.Judge.{Judged, verdictNumbers};
+ghost use Rattle.transcript.specs.Judge.{Judged, verdictNumbers};
 ghost use Rattle.rivandoze.specs.Word.{judgedIn};
-use judge::Verdict;
+use transcript::Verdict;
 
 fn verdict_word(verdict: Verdict) -> u64
     requires { ⌜ verdictNumbers verdict .2 < 2048 ⌝ }

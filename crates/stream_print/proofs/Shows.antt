@@ -17,7 +17,7 @@ use Rattle.walk.proofs.Replaying.{asked}
 use Rattle.image.specs.How.{FitsState}
 use Rattle.image_kept.proofs.Keeping.{state-first, run-kept}
 use Rattle.image_kept.proofs.Readings.{readings-small}
-use Rattle.judge.proofs.Numbers.{in-bytes}
+use Rattle.transcript.proofs.Numbers.{in-bytes}
 use Rattle.text.specs.Text.{linesOf, readingsIn, stopText}
 use Rattle.text.proofs.Room.{lines-below}
 use Rattle.printed.proofs.Prints.{put-counts}

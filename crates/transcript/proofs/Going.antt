@@ -20,12 +20,12 @@ use Rattle.wire.specs.Bytes.{byte, leOf, asks, readsIn}
 use Rattle.wire.specs.Trailer.{recordsAt, recordsOf}
 use Rattle.wire.specs.declared.Trailer.{Trailer}
 use Rattle.wire.proofs.Laws.{first-byte, ends}
-use Rattle.judge.specs.declared.Verdict.{Verdict}
-use Rattle.judge.specs.declared.Verdict.the-variants.{Negated, Both}
-use Rattle.judge.specs.Judge.{neg, ofCntr, plain, opposite, same, negated, both, different, Answer}
-use Rattle.judge.specs.How.{Agree, Ready, Plainly, all, until}
-use Rattle.judge.proofs.Numbers.{in-slice, in-bytes, le-take, one-more}
-use Rattle.judge.proofs.Placed.{turned, plain-long, opposite-long, over}
+use Rattle.transcript.specs.declared.Verdict.{Verdict}
+use Rattle.transcript.specs.declared.Verdict.the-variants.{Negated, Both}
+use Rattle.transcript.specs.Judge.{neg, ofCntr, plain, opposite, same, negated, both, different, Answer}
+use Rattle.transcript.specs.How.{Agree, Ready, Plainly, all, until}
+use Rattle.transcript.proofs.Numbers.{in-slice, in-bytes, le-take, one-more}
+use Rattle.transcript.proofs.Placed.{turned, plain-long, opposite-long, over}
 
 -- ---- records by their places, cut at one of them
 
@@ -217,15 +217,11 @@ module _ (log : List ℕ) (start : ℕ) (out ts : List ℕ) (ready : Ready log s
               moves = q;
             }
 
-          pub other-on : c ≡ false → t ≡ v → ((k : ℕ) → Fits w8 (getD ts k 0)) → Going log start ts still (at + 16) (j + 1)
-          other-on f a bytes = reads-on v (sym (rw f)) a bytes still (λ s. (s, refl)) (g .moves)
-
           unmoved : (w : ℕ) → w ≡ cond c (neg v) v → plain log ≡ opposite log → w ≡ v
           unmoved w e p = e ∙ sym opposite-at ∙ ap (λ (l : List ℕ). leOf 8 l (8 * j)) (sym p) ∙ plain-at
 
-          pub cntr-on : (w : ℕ) → c ≡ true → w ≡ neg v → t ≡ w → ((k : ℕ) → Fits w8 (getD ts k 0)) → Going log start ts (still && eqb w v) (at + 16) (j + 1)
-          cntr-on w f h a bytes =
-              let e : w ≡ cond c (neg v) v = h ∙ sym (rw f) in
+          pub reads-next : (w : ℕ) → w ≡ cond c (neg v) v → t ≡ w → ((k : ℕ) → Fits w8 (getD ts k 0)) → Going log start ts (still && eqb w v) (at + 16) (j + 1)
+          reads-next w e a bytes =
               reads-on w e a bytes (still && eqb w v) (λ s. let k = both-true still (eqb w v) s in (k .0, eqb-true w v (k .1))) (by still (eqb w v) refl (g .moves) e)
             where
               by : (s d : Bool) → eqb w v ≡ d → (s ≡ false → plain log ≡ opposite log → ⊥) → w ≡ cond c (neg v) v → (s && d) ≡ false → plain log ≡ opposite log → ⊥
@@ -235,9 +231,5 @@ module _ (log : List ℕ) (start : ℕ) (out ts : List ℕ) (ready : Ready log s
 
           -- ---- a reading that is not the negated one: the plain comparison decides
 
-          module _ (r : Verdict) (plainly : Plainly ts out r) where
-            pub other-breaks : c ≡ false → (t ≡ v → ⊥) → Answer log ts r
-            other-breaks f d = settled r plainly (not-opposite (λ e. d (rw f at e)))
-
-            pub cntr-breaks : (w : ℕ) → c ≡ true → w ≡ neg v → (t ≡ w → ⊥) → Answer log ts r
-            cntr-breaks w f h d = settled r plainly (not-opposite (λ e. d ((rw f at e) ∙ sym h)))
+          pub breaks : (r : Verdict) → Plainly ts out r → (w : ℕ) → w ≡ cond c (neg v) v → (t ≡ w → ⊥) → Answer log ts r
+          breaks r plainly w e d = settled r plainly (not-opposite (λ f. d (f ∙ sym e)))

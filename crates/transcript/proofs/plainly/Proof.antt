@@ -1,10 +1,10 @@
--- `judge::plainly` meets its contract: the readings passed are the same. Assumes nothing.
+-- `transcript::plainly` meets its contract: the readings passed are the same. Assumes nothing.
 use Prim.Native.Nat.{_-_, _≤_}
 use borrow.Author.Needs.{needs}
-use Rattle.judge.specs.How.{Agree}
-use Rattle.judge.proofs.Plain.{all-agree, next-differs, next-agrees}
-use Rattle.judge.proofs.plainly.Statement.{statement}
-use Rattle.judge.proofs.plainly.Tie as tie
+use Rattle.transcript.specs.How.{Agree}
+use Rattle.transcript.proofs.Plain.{all-agree, next-differs, next-agrees}
+use Rattle.transcript.proofs.plainly.Statement.{statement}
+use Rattle.transcript.proofs.plainly.Tie as tie
 
 abbrev Inv-loop : tie.InvT-loop
 Inv-loop transcript out n next₀ next = (next ≤ n) × Agree next transcript out

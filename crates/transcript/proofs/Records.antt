@@ -28,7 +28,7 @@ use Rattle.banks.specs.State.{bankAt}
 use Rattle.walk.specs.Turn.{turnOf}
 use Rattle.fold.proofs.Turns.{lift-answers, lift-applies, lift-reads}
 use Rattle.walk.proofs.Replaying.{by-turn}
-use Rattle.judge.specs.Judge.{ofCntr}
+use Rattle.transcript.specs.Judge.{ofCntr}
 
 pub reads-exactly : (o : Edition) (s : State) (bytes : List ℕ) → applies (turnOf o s bytes) ≡ true → answers (turnOf o s bytes) ≡ asks bytes
 reads-exactly o s bytes =

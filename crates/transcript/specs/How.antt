@@ -13,9 +13,9 @@ use Rattle.banks.specs.State.{fresh}
 use Rattle.wire.specs.Trailer.{trailerOf, recordsOf}
 use Rattle.wire.specs.declared.Trailer.the-variants.{Found}
 use Rattle.replay.specs.Replay.{replayed}
-use Rattle.judge.specs.Judge.{plain}
-use Rattle.judge.specs.declared.Verdict.{Verdict}
-use Rattle.judge.specs.declared.Verdict.the-variants.{Same, Different}
+use Rattle.transcript.specs.Judge.{plain}
+use Rattle.transcript.specs.declared.Verdict.{Verdict}
+use Rattle.transcript.specs.declared.Verdict.the-variants.{Same, Different}
 
 -- the transcript of a log by what its records do
 abbrev pub transcriptBy : (State → List ℕ → Turn State ℕ) → List ℕ → List ℕ

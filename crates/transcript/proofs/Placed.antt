@@ -19,9 +19,9 @@ use Rattle.banks.specs.State.{fresh}
 use Rattle.replay.specs.Replay.{played, replayed}
 use Rattle.walk.specs.Turn.{turnOf}
 use Rattle.replay.proofs.Numbers as numbers
-use Rattle.judge.specs.Judge.{neg, ofCntr, negating, plain, opposite}
-use Rattle.judge.proofs.Numbers.{said, said-small, reading-at}
-use Rattle.judge.proofs.Records.{reads-exactly, cntr-small}
+use Rattle.transcript.specs.Judge.{neg, ofCntr, negating, plain, opposite}
+use Rattle.transcript.proofs.Numbers.{said, said-small, reading-at}
+use Rattle.transcript.proofs.Records.{reads-exactly, cntr-small}
 
 -- ---- the negated run beside the plain one: the same but for the readings, of which there are as many
 

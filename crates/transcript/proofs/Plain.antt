@@ -9,9 +9,9 @@ use lib.ListN.{length, getD}
 use mir.Syntax.{w8}
 use mir.Val.{Fits}
 use Rattle.wire.specs.Bytes.{leOf}
-use Rattle.judge.specs.declared.Verdict.the-variants.{Same, Different}
-use Rattle.judge.specs.How.{Agree, Plainly, all, until}
-use Rattle.judge.proofs.Numbers.{in-slice, one-more, the-next}
+use Rattle.transcript.specs.declared.Verdict.the-variants.{Same, Different}
+use Rattle.transcript.specs.How.{Agree, Plainly, all, until}
+use Rattle.transcript.proofs.Numbers.{in-slice, one-more, the-next}
 
 module _ (ts out : List ℕ) (i : ℕ) (agree : Agree i ts out) where
   pub all-agree : i ≡ length ts / 8 → Plainly ts out Same

@@ -15,8 +15,8 @@ use Rattle.banks.specs.declared.State.{State}
 use Rattle.banks.specs.State.{fresh}
 use Rattle.replay.specs.Replay.{played, replayed}
 use Rattle.walk.specs.Turn.{turnOf}
-use Rattle.judge.specs.declared.Verdict.{Verdict}
-use Rattle.judge.specs.declared.Verdict.the-variants.{Same, Negated, Both, Different, Refused}
+use Rattle.transcript.specs.declared.Verdict.{Verdict}
+use Rattle.transcript.specs.declared.Verdict.the-variants.{Same, Negated, Both, Different, Refused}
 
 -- "negated modulo 2^32"
 abbrev pub neg : ℕ → ℕ
