@@ -14,7 +14,7 @@ ghost use Rattle.shrink.specs.Shrink.{smallerOf};
 ghost use Rattle.sign.specs.Sign.{signOf, signOutput};
 ghost use Rattle.writer.specs.Writer.{writtenOf, outputOf as write-output};
 ghost use Rattle.live_state.specs.Live.{chunkOf, endOf};
-ghost use Rattle.image.specs.Image.{imageOf};
+ghost use Rattle.image_state.specs.Image.{imageOf};
 ghost use Rattle.stream.specs.Stream.{startOf, startedIn, On};
 ghost use Rattle.rivandoze.specs.Word.{Word};
 

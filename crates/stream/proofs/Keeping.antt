@@ -18,7 +18,7 @@ use Rattle.live_state.specs.Live.{Live, Taken, freshOf, takenOf, chunkOf}
 use Rattle.live_state.specs.How.{finished}
 use Rattle.codec.specs.How.{Bytes}
 use Rattle.codec.proofs.Has.{bytes-both}
-use Rattle.image.specs.Image.{Fits}
+use Rattle.image_state.specs.Image.{Fits}
 use Rattle.image_kept.proofs.Keeping.{state-first, run-kept, run-refusal}
 
 -- ---- what is carried on

@@ -14,7 +14,7 @@ use Rattle.fold.proofs.Laws as laws
 use Rattle.edition.specs.Edition.{editionOf}
 use Rattle.walk.specs.Turn.{turnOf}
 use Rattle.walk.proofs.Replaying.{asked}
-use Rattle.image.specs.How.{FitsState}
+use Rattle.image_state.specs.How.{FitsState}
 use Rattle.image_kept.proofs.Keeping.{state-first, run-kept}
 use Rattle.image_kept.proofs.Readings.{readings-small}
 use Rattle.transcript.proofs.Numbers.{in-bytes}

@@ -1,5 +1,5 @@
 -- A stream as the code has it. Assumes nothing.
-use Rattle.image.specs.How.{FitsState}
+use Rattle.image_state.specs.How.{FitsState}
 use Rattle.live_state.specs.How.{liveOf, Good}
 use Rattle.live_state.specs.declared.Stream.{Stream}
 

@@ -2,10 +2,10 @@ use mathlib.Core.Path.{_≡_}
 use Prim.Native.Nat.{_≤_, _-_}
 use Rattle.codec.specs.How.{okMany, okWord}
 use Rattle.image_words.specs.How.{isRegisters}
-use Rattle.image.proofs.Steps.{test-none, registers-more, test-all}
+use Rattle.image_state.proofs.Tests.{test-none, registers-more, test-all}
 use borrow.Author.Needs.{needs}
-use Rattle.image.proofs.are_registers.Statement.{statement}
-use Rattle.image.proofs.are_registers.Tie as tie
+use Rattle.image_state.proofs.are_registers.Statement.{statement}
+use Rattle.image_state.proofs.are_registers.Tie as tie
 
 abbrev Inv-loop : tie.InvT-loop
 Inv-loop s all₀ i₀ all i = (i ≤ 40) × (all ≡ okMany 16 (okWord isRegisters) i s 224)

@@ -1,7 +1,7 @@
-use Rattle.image.proofs.Whole.{state-not, state-tested}
+use Rattle.image_state.proofs.Tests.{state-not, state-tested}
 use borrow.Author.Needs.{needs}
-use Rattle.image.proofs.is_state.Statement.{statement}
-use Rattle.image.proofs.is_state.Tie as tie
+use Rattle.image_state.proofs.is_state.Statement.{statement}
+use Rattle.image_state.proofs.is_state.Tie as tie
 
 pub is-state-spec : {M : Type 1} → statement M
 is-state-spec =

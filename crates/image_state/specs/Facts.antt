@@ -5,7 +5,7 @@ use mathlib.Core.Path.{_≡_}
 use lib.ListN.{length}
 use Rattle.wire.specs.Bytes.{byte}
 use Rattle.live_state.specs.Live.{Live}
-use Rattle.image.specs.Image.{size, imageOf, Fits}
+use Rattle.image_state.specs.Image.{size, imageOf, Fits}
 
 -- a stream's image has exactly that many bytes, and no other stream has it: at most one stands in any bytes
 abbrev pub Images : Type 0

@@ -15,10 +15,10 @@ use Rattle.codec.specs.How.{okWord, loadMany, okMany}
 use Rattle.codec.proofs.Many.{both}
 use Rattle.codec.proofs.Each.{byte-many, length-many}
 use Rattle.image_words.specs.How.{isSelect, isI2c, isEncoder}
-use Rattle.image.specs.How.{okPwm, loadOf, isHead, isCarried, isState, flatOf}
-use Rattle.image.proofs.Flats.{state-loaded}
-use Rattle.image.proofs.Pads.{padded, padded-there}
-use Rattle.image.proofs.Lawful.{head-small, loadAt, okAt}
+use Rattle.image_state.specs.How.{okPwm, loadOf, isHead, isCarried, isState, flatOf}
+use Rattle.image_state.proofs.Flats.{state-loaded}
+use Rattle.image_state.proofs.Pads.{padded, padded-there}
+use Rattle.image_state.proofs.Lawful.{head-small, loadAt, okAt}
 
 all-true : (n : ℕ) (s : List ℕ) (at : ℕ) → okMany 1 (λ t j. true) n s at ≡ true
 unfolding okMany

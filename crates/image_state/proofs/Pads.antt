@@ -12,7 +12,7 @@ use borrow.Author.Tests.{lt-ltb, le-ltb, ltb-true, ltb-false, eqb-true}
 use Rattle.wire.specs.Bytes.{byte}
 use Rattle.codec.specs.How.{loadMany, okMany}
 use Rattle.codec.proofs.Each.{byte-many, many-each, each-many}
-use Rattle.image.specs.How.{isCarried}
+use Rattle.image_state.specs.How.{isCarried}
 
 -- sixteen bytes whose held ones are at the front
 abbrev pub padded : ℕ → List ℕ → Bool

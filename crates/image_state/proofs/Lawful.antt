@@ -28,10 +28,10 @@ use Rattle.image_words.specs.Words.{FitsEncoder, FitsI2c, FitsPwm}
 use Rattle.image_words.specs.How.{encoderOf, isEncoder, i2cOf, isI2c, isSelect, isShort}
 use Rattle.image_words.proofs.Laid.{remainder-small}
 use Rattle.image_words.proofs.Digits.{select-number, i2c-number, encoder-number, FitsRegisters, registers-number, FitsWave, wave-number}
-use Rattle.image.specs.Image.{Fits}
-use Rattle.image.specs.How.{headNumber, savePwm, wordsOf, loadPwm, okPwm, isRefusal, isHead}
-use Rattle.image.proofs.Flats.{laidOut, state-back, flat-back, FitsLists, lists-fit, sized, state-fits}
-use Rattle.image.proofs.Pads.{padded, filled, filled-back, filled-long, filled-padded, take-filled}
+use Rattle.image_state.specs.Image.{Fits}
+use Rattle.image_state.specs.How.{headNumber, savePwm, wordsOf, loadPwm, okPwm, isRefusal, isHead}
+use Rattle.image_state.proofs.Flats.{laidOut, state-back, flat-back, FitsLists, lists-fit, sized, state-fits}
+use Rattle.image_state.proofs.Pads.{padded, filled, filled-back, filled-long, filled-padded, take-filled}
 
 -- ---- a PWM channel
 

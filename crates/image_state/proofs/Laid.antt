@@ -17,10 +17,10 @@ use Rattle.codec.proofs.Each.{get-each}
 use Rattle.image_words.specs.Words.{i2cBytes, encoderBytes, pwmBytes, FitsEncoder, FitsPwm}
 use Rattle.image_words.specs.How.{i2cNumber, encoderNumber}
 use Rattle.image_words.proofs.Laid.{low, i2c-bytes, encoder-bytes, pwm-bytes}
-use Rattle.image.specs.Image.{imageOf, FitsBank, Fits}
-use Rattle.image.specs.How.{FitsState, headNumber, savePwm, wordsOf}
-use Rattle.image.proofs.Flats.{selectsOf, i2csOf, encodersOf, pwmsOf}
-use Rattle.image.proofs.Lawful.{head-fits, head-small}
+use Rattle.image_state.specs.Image.{imageOf, FitsBank, Fits}
+use Rattle.image_state.specs.How.{FitsState, headNumber, savePwm, wordsOf}
+use Rattle.image_state.proofs.Flats.{selectsOf, i2csOf, encodersOf, pwmsOf}
+use Rattle.image_state.proofs.Lawful.{head-fits, head-small}
 
 module _ {X : Type 0} (save laid : X → List ℕ) (Fits : X → Type 0) (same : (x : X) → Fits x → save x ≡ laid x) where
   -- an array, each element by its own bytes

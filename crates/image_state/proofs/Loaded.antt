@@ -9,11 +9,11 @@ use lib.ListN.{length, take, drop, length-append, take-append-drop}
 use Rattle.codec.specs.How.{Bytes}
 use Rattle.codec.proofs.Build.{loads-back, passes-own, is-image}
 use Rattle.live_state.specs.Live.{Live}
-use Rattle.image.specs.Image.{imageOf, Fits, Stands}
-use Rattle.image.specs.How.{loadOf, isState}
-use Rattle.image.proofs.Lawful.{stream-lawful}
-use Rattle.image.proofs.Passing.{passed, passes, loads-same}
-use Rattle.image.proofs.Laid.{words-laid}
+use Rattle.image_state.specs.Image.{imageOf, Fits, Stands}
+use Rattle.image_state.specs.How.{loadOf, isState}
+use Rattle.image_state.proofs.Lawful.{stream-lawful}
+use Rattle.image_state.proofs.Passing.{passed, passes, loads-same}
+use Rattle.image_state.proofs.Laid.{words-laid}
 
 module _ (l : Live) (f : Fits l) where
   pub image-long : length (imageOf l) ≡ 864

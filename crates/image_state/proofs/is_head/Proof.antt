@@ -1,6 +1,6 @@
 use borrow.Author.Needs.{needs}
-use Rattle.image.proofs.is_head.Statement.{statement}
-use Rattle.image.proofs.is_head.Tie as tie
+use Rattle.image_state.proofs.is_head.Statement.{statement}
+use Rattle.image_state.proofs.is_head.Tie as tie
 
 pub is-head-spec : {M : Type 1} → statement M
 is-head-spec =

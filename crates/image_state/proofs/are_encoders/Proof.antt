@@ -2,10 +2,10 @@ use mathlib.Core.Path.{_≡_}
 use Prim.Native.Nat.{_≤_, _-_}
 use Rattle.codec.specs.How.{okMany, okWord}
 use Rattle.image_words.specs.How.{isEncoder}
-use Rattle.image.proofs.Steps.{test-none, encoders-more, test-all}
+use Rattle.image_state.proofs.Tests.{test-none, encoders-more, test-all}
 use borrow.Author.Needs.{needs}
-use Rattle.image.proofs.are_encoders.Statement.{statement}
-use Rattle.image.proofs.are_encoders.Tie as tie
+use Rattle.image_state.proofs.are_encoders.Statement.{statement}
+use Rattle.image_state.proofs.are_encoders.Tie as tie
 
 abbrev Inv-loop : tie.InvT-loop
 Inv-loop s all₀ i₀ all i = (i ≤ 20) × (all ≡ okMany 8 (okWord isEncoder) i s 64)

@@ -1,11 +1,11 @@
 use mathlib.Core.Path.{_≡_}
 use Prim.Native.Nat.{_≤_, _-_}
 use Rattle.codec.specs.How.{okMany}
-use Rattle.image.specs.How.{isCarried}
-use Rattle.image.proofs.Steps.{test-none, carried-more, test-all}
+use Rattle.image_state.specs.How.{isCarried}
+use Rattle.image_state.proofs.Tests.{test-none, carried-more, test-all}
 use borrow.Author.Needs.{needs}
-use Rattle.image.proofs.are_carried.Statement.{statement}
-use Rattle.image.proofs.are_carried.Tie as tie
+use Rattle.image_state.proofs.are_carried.Statement.{statement}
+use Rattle.image_state.proofs.are_carried.Tie as tie
 
 abbrev Inv-loop : tie.InvT-loop
 Inv-loop s end all₀ i₀ all i = (i ≤ 16) × (all ≡ okMany 1 (isCarried end) i s 16)

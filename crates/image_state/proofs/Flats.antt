@@ -20,8 +20,8 @@ use Rattle.codec.specs.How.{loadWord, loadMany, FitMany}
 use Rattle.codec.proofs.Each.{each-get, get-each, each-append, each-take, each-drop, take-many, drop-many}
 use Rattle.image_words.specs.Words.{FitsEncoder, FitsPwm, FitsI2c}
 use Rattle.image_words.specs.How.{encoderOf}
-use Rattle.image.specs.Image.{FitsBank}
-use Rattle.image.specs.How.{FitsState, loadPwm, loadOf, flatOf}
+use Rattle.image_state.specs.Image.{FitsBank}
+use Rattle.image_state.specs.How.{FitsState, loadPwm, loadOf, flatOf}
 
 -- ---- the lists of a state
 

@@ -1,11 +1,11 @@
 use mathlib.Core.Path.{_≡_}
 use Prim.Native.Nat.{_≤_, _-_}
 use Rattle.codec.specs.How.{okMany}
-use Rattle.image.specs.How.{okQuick}
-use Rattle.image.proofs.Steps.{test-none, quick-more, test-all}
+use Rattle.image_state.specs.How.{okQuick}
+use Rattle.image_state.proofs.Tests.{test-none, quick-more, test-all}
 use borrow.Author.Needs.{needs}
-use Rattle.image.proofs.are_short.Statement.{statement}
-use Rattle.image.proofs.are_short.Tie as tie
+use Rattle.image_state.proofs.are_short.Statement.{statement}
+use Rattle.image_state.proofs.are_short.Tie as tie
 
 abbrev Inv-loop : tie.InvT-loop
 Inv-loop s all₀ i₀ all i = (i ≤ 40) × (all ≡ okMany 16 okQuick i s 224)
