@@ -15,7 +15,8 @@ use Rattle.encoder.specs.declared.Encoder.{Encoder}
 use Rattle.pwm.specs.declared.Pwm.{Pwm}
 use Rattle.i2c.specs.declared.I2c.{I2c}
 use Rattle.banks.specs.declared.Flat.{Flat}
-use Rattle.image_words.specs.How.{i2cNumber, lowNumber, encoderOf, pwmOf, registersNumber, waveNumber}
+use Rattle.image_words.specs.How.{i2cNumber, lowNumber, encoderOf}
+use Rattle.image_pwm.specs.How.{pwmOf, registersNumber, waveNumber}
 use Rattle.image_state.specs.How.{savePwm, loadPwm, withEncoders, withPwms}
 
 -- ---- loading

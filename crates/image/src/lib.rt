@@ -1,13 +1,13 @@
 // A stream's state loaded from the bytes that the caller lends, and saved in them.
 use banks::Flat;
 use encoder::Encoder;
+use image_pwm::pwm_of;
+use image_pwm::registers_number;
+use image_pwm::wave_number;
 use image_words::encoder_number;
 use image_words::encoder_of;
 use image_words::i2c_number;
 use image_words::i2c_of;
-use image_words::pwm_of;
-use image_words::registers_number;
-use image_words::wave_number;
 use live_state::Stream;
 use pwm::Pwm;
 use wire::le64;

@@ -18,7 +18,8 @@ use Rattle.banks.specs.State.{noI2c, bankAt}
 use Rattle.banks.specs.How.{part, bankIn, stateOf}
 use Rattle.codec.specs.How.{loadWord, loadMany, FitMany}
 use Rattle.codec.proofs.Each.{each-get, get-each, each-append, each-take, each-drop, take-many, drop-many}
-use Rattle.image_words.specs.Words.{FitsEncoder, FitsPwm, FitsI2c}
+use Rattle.image_words.specs.Words.{FitsEncoder, FitsI2c}
+use Rattle.image_pwm.specs.Words.{FitsPwm}
 use Rattle.image_words.specs.How.{encoderOf}
 use Rattle.image_state.specs.Image.{FitsBank}
 use Rattle.image_state.specs.How.{FitsState, loadPwm, loadOf, flatOf}

@@ -14,9 +14,11 @@ use Rattle.banks.specs.State.{bankAt}
 use Rattle.live_state.specs.Live.{Live}
 use Rattle.codec.specs.How.{saveWord, saveMany, Each}
 use Rattle.codec.proofs.Each.{get-each}
-use Rattle.image_words.specs.Words.{i2cBytes, encoderBytes, pwmBytes, FitsEncoder, FitsPwm}
+use Rattle.image_words.specs.Words.{i2cBytes, encoderBytes, FitsEncoder}
+use Rattle.image_pwm.specs.Words.{pwmBytes, FitsPwm}
 use Rattle.image_words.specs.How.{i2cNumber, encoderNumber}
-use Rattle.image_words.proofs.Laid.{low, i2c-bytes, encoder-bytes, pwm-bytes}
+use Rattle.image_words.proofs.Laid.{low, i2c-bytes, encoder-bytes}
+use Rattle.image_pwm.proofs.Laid.{pwm-bytes}
 use Rattle.image_state.specs.Image.{imageOf, FitsBank, Fits}
 use Rattle.image_state.specs.How.{FitsState, headNumber, savePwm, wordsOf}
 use Rattle.image_state.proofs.Flats.{selectsOf, i2csOf, encodersOf, pwmsOf}

@@ -24,10 +24,13 @@ use Rattle.codec.proofs.Word.{word-lawful, any-number, byte-lawful}
 use Rattle.codec.proofs.Many.{many-lawful, both}
 use Rattle.codec.proofs.Build.{then-lawful, such-lawful, struct-lawful}
 use Rattle.codec.proofs.Each.{each-get, get-each, each-take, each-append}
-use Rattle.image_words.specs.Words.{FitsEncoder, FitsI2c, FitsPwm}
-use Rattle.image_words.specs.How.{encoderOf, isEncoder, i2cOf, isI2c, isSelect, isShort}
-use Rattle.image_words.proofs.Laid.{remainder-small}
-use Rattle.image_words.proofs.Digits.{select-number, i2c-number, encoder-number, FitsRegisters, registers-number, FitsWave, wave-number}
+use Rattle.image_words.specs.Words.{FitsEncoder, FitsI2c}
+use Rattle.image_pwm.specs.Words.{FitsPwm}
+use Rattle.image_words.specs.How.{encoderOf, isEncoder, i2cOf, isI2c, isSelect}
+use Rattle.image_pwm.specs.How.{isShort}
+use Rattle.image_pwm.proofs.Laid.{remainder-small}
+use Rattle.image_words.proofs.Digits.{select-number, i2c-number, encoder-number}
+use Rattle.image_pwm.proofs.Digits.{FitsRegisters, registers-number, FitsWave, wave-number}
 use Rattle.image_state.specs.Image.{Fits}
 use Rattle.image_state.specs.How.{headNumber, savePwm, wordsOf, loadPwm, okPwm, isRefusal, isHead}
 use Rattle.image_state.proofs.Flats.{laidOut, state-back, flat-back, FitsLists, lists-fit, sized, state-fits}

@@ -11,8 +11,9 @@ use lib.Dec.{ltb, eqb}
 use Rattle.wire.specs.Bytes.{byte, leOf}
 use Rattle.codec.specs.How.{okWord, okMany}
 use Rattle.codec.proofs.Loops.{tested-none, tested-more}
-use Rattle.image_words.specs.How.{isEncoder, isRegisters, isWave, isShort, isQuick, isI2c, isSelect}
-use Rattle.image_words.proofs.Numbers.{quick-short}
+use Rattle.image_words.specs.How.{isEncoder, isI2c, isSelect}
+use Rattle.image_pwm.specs.How.{isRegisters, isWave, isShort, isQuick}
+use Rattle.image_pwm.proofs.Numbers.{quick-short}
 use Rattle.image_state.specs.How.{loadPwm, okPwm, isCarried, okWave, okQuick, isHead, isState}
 use borrow.Author.Tests.{le-leb, lt-leb}
 

@@ -20,7 +20,8 @@ use Rattle.live_state.specs.Live.{Live}
 use Rattle.live_state.specs.declared.Stream.{Stream}
 use Rattle.live_state.specs.How.{liveOf}
 use Rattle.codec.specs.How.{saveWord, loadWord, okWord, saveMany, loadMany, okMany}
-use Rattle.image_words.specs.How.{isSelect, i2cNumber, i2cOf, isI2c, encoderNumber, encoderOf, isEncoder, registersNumber, waveNumber, pwmOf, isRegisters, isWave, isShort, isQuick}
+use Rattle.image_words.specs.How.{isSelect, i2cNumber, i2cOf, isI2c, encoderNumber, encoderOf, isEncoder}
+use Rattle.image_pwm.specs.How.{registersNumber, waveNumber, pwmOf, isRegisters, isWave, isShort, isQuick}
 use Rattle.image_state.specs.Image.{size, FitsBank, Fits}
 
 abbrev pub FitsState : State → Type 0

@@ -15,7 +15,8 @@ use Rattle.bank.specs.declared.Bank.{Bank}
 use Rattle.bank.specs.Bank.{encoderAt, pwmAt}
 use Rattle.banks.specs.State.{bankAt}
 use Rattle.live_state.specs.Live.{Live}
-use Rattle.image_words.specs.Words.{i2cBytes, FitsI2c, encoderBytes, FitsEncoder, pwmBytes, FitsPwm}
+use Rattle.image_words.specs.Words.{i2cBytes, FitsI2c, encoderBytes, FitsEncoder}
+use Rattle.image_pwm.specs.Words.{pwmBytes, FitsPwm}
 
 -- RVZ_STREAM_BYTES
 abbrev pub size : ℕ

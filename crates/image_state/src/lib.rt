@@ -1,15 +1,16 @@
 // Whether bytes are a stream's state: 864 of them, laid out in specs/Image.antt.
+use image_pwm::is_registers;
+use image_pwm::is_short;
 use image_words::is_encoder;
 use image_words::is_i2c;
-use image_words::is_registers;
-use image_words::is_short;
 use wire::le64;
 ghost use mathlib.Core.Path.{_≡_};
 ghost use mathlib.Core.Bool.{true};
 ghost use Prim.Native.Nat.{_+_, _<_, _≤_};
 ghost use lib.ListN.{length};
 ghost use Rattle.codec.specs.How.{okWord, okMany};
-ghost use Rattle.image_words.specs.How.{isEncoder, isRegisters};
+ghost use Rattle.image_words.specs.How.{isEncoder};
+ghost use Rattle.image_pwm.specs.How.{isRegisters};
 ghost use Rattle.image_state.specs.Image.{size};
 ghost use Rattle.image_state.specs.How.{isRefusal, isHead, isCarried, isState, okWave, okQuick};
 

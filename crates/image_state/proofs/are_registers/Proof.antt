@@ -1,7 +1,7 @@
 use mathlib.Core.Path.{_≡_}
 use Prim.Native.Nat.{_≤_, _-_}
 use Rattle.codec.specs.How.{okMany, okWord}
-use Rattle.image_words.specs.How.{isRegisters}
+use Rattle.image_pwm.specs.How.{isRegisters}
 use Rattle.image_state.proofs.Tests.{test-none, registers-more, test-all}
 use borrow.Author.Needs.{needs}
 use Rattle.image_state.proofs.are_registers.Statement.{statement}

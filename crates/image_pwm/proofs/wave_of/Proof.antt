@@ -1,7 +1,7 @@
-use Rattle.image_words.specs.How.{waveOf}
+use Rattle.image_pwm.specs.How.{waveOf}
 use borrow.Author.Needs.{needs}
-use Rattle.image_words.proofs.wave_of.Statement.{statement}
-use Rattle.image_words.proofs.wave_of.Tie as tie
+use Rattle.image_pwm.proofs.wave_of.Statement.{statement}
+use Rattle.image_pwm.proofs.wave_of.Tie as tie
 
 pub wave-of-spec : {M : Type 1} → statement M
 unfolding waveOf

@@ -1,6 +1,6 @@
 use borrow.Author.Needs.{needs}
-use Rattle.image_words.proofs.pwm_of.Statement.{statement}
-use Rattle.image_words.proofs.pwm_of.Tie as tie
+use Rattle.image_pwm.proofs.pwm_of.Statement.{statement}
+use Rattle.image_pwm.proofs.pwm_of.Tie as tie
 
 pub pwm-of-spec : {M : Type 1} → statement M
 pwm-of-spec =

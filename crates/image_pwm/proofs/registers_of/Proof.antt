@@ -1,7 +1,7 @@
-use Rattle.image_words.specs.How.{registersOf}
+use Rattle.image_pwm.specs.How.{registersOf}
 use borrow.Author.Needs.{needs}
-use Rattle.image_words.proofs.registers_of.Statement.{statement}
-use Rattle.image_words.proofs.registers_of.Tie as tie
+use Rattle.image_pwm.proofs.registers_of.Statement.{statement}
+use Rattle.image_pwm.proofs.registers_of.Tie as tie
 
 pub registers-of-spec : {M : Type 1} → statement M
 unfolding registersOf

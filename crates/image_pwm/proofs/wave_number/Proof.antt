@@ -1,7 +1,7 @@
-use Rattle.image_words.specs.How.{waveNumber}
+use Rattle.image_pwm.specs.How.{waveNumber}
 use borrow.Author.Needs.{needs}
-use Rattle.image_words.proofs.wave_number.Statement.{statement}
-use Rattle.image_words.proofs.wave_number.Tie as tie
+use Rattle.image_pwm.proofs.wave_number.Statement.{statement}
+use Rattle.image_pwm.proofs.wave_number.Tie as tie
 
 pub wave-number-spec : {M : Type 1} → statement M
 unfolding waveNumber

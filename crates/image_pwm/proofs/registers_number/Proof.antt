@@ -1,7 +1,7 @@
-use Rattle.image_words.specs.How.{registersNumber}
+use Rattle.image_pwm.specs.How.{registersNumber}
 use borrow.Author.Needs.{needs}
-use Rattle.image_words.proofs.registers_number.Statement.{statement}
-use Rattle.image_words.proofs.registers_number.Tie as tie
+use Rattle.image_pwm.proofs.registers_number.Statement.{statement}
+use Rattle.image_pwm.proofs.registers_number.Tie as tie
 
 pub registers-number-spec : {M : Type 1} → statement M
 unfolding registersNumber
