@@ -217,11 +217,15 @@ module _ (log : List ℕ) (start : ℕ) (out ts : List ℕ) (ready : Ready log s
               moves = q;
             }
 
+          pub other-on : c ≡ false → t ≡ v → ((k : ℕ) → Fits w8 (getD ts k 0)) → Going log start ts still (at + 16) (j + 1)
+          other-on f a bytes = reads-on v (sym (rw f)) a bytes still (λ s. (s, refl)) (g .moves)
+
           unmoved : (w : ℕ) → w ≡ cond c (neg v) v → plain log ≡ opposite log → w ≡ v
           unmoved w e p = e ∙ sym opposite-at ∙ ap (λ (l : List ℕ). leOf 8 l (8 * j)) (sym p) ∙ plain-at
 
-          pub reads-next : (w : ℕ) → w ≡ cond c (neg v) v → t ≡ w → ((k : ℕ) → Fits w8 (getD ts k 0)) → Going log start ts (still && eqb w v) (at + 16) (j + 1)
-          reads-next w e a bytes =
+          pub cntr-on : (w : ℕ) → c ≡ true → w ≡ neg v → t ≡ w → ((k : ℕ) → Fits w8 (getD ts k 0)) → Going log start ts (still && eqb w v) (at + 16) (j + 1)
+          cntr-on w f h a bytes =
+              let e : w ≡ cond c (neg v) v = h ∙ sym (rw f) in
               reads-on w e a bytes (still && eqb w v) (λ s. let k = both-true still (eqb w v) s in (k .0, eqb-true w v (k .1))) (by still (eqb w v) refl (g .moves) e)
             where
               by : (s d : Bool) → eqb w v ≡ d → (s ≡ false → plain log ≡ opposite log → ⊥) → w ≡ cond c (neg v) v → (s && d) ≡ false → plain log ≡ opposite log → ⊥
@@ -231,5 +235,9 @@ module _ (log : List ℕ) (start : ℕ) (out ts : List ℕ) (ready : Ready log s
 
           -- ---- a reading that is not the negated one: the plain comparison decides
 
-          pub breaks : (r : Verdict) → Plainly ts out r → (w : ℕ) → w ≡ cond c (neg v) v → (t ≡ w → ⊥) → Answer log ts r
-          breaks r plainly w e d = settled r plainly (not-opposite (λ f. d (f ∙ sym e)))
+          module _ (r : Verdict) (plainly : Plainly ts out r) where
+            pub other-breaks : c ≡ false → (t ≡ v → ⊥) → Answer log ts r
+            other-breaks f d = settled r plainly (not-opposite (λ e. d (rw f at e)))
+
+            pub cntr-breaks : (w : ℕ) → c ≡ true → w ≡ neg v → (t ≡ w → ⊥) → Answer log ts r
+            cntr-breaks w f h d = settled r plainly (not-opposite (λ e. d ((rw f at e) ∙ sym h)))

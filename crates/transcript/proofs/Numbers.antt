@@ -1,7 +1,6 @@
 -- Transcripts as bytes and as numbers of 8 bytes.
 -- Assumes nothing.
 use mathlib.Core.Path.{_≡_, refl, sym, ap, _∙_}
-use mathlib.Core.Bool.{Bool, true, cond}
 use mathlib.Core.List.{List, [], _∷_, _++_}
 use Prim.Native.Nat.{ℕ, zero, suc, _+_, _*_, _/_, _^_, _≤_, _<_}
 use native.Mathlib.Omega.{arith}
@@ -12,7 +11,6 @@ use mir.Val.{Fits}
 use Rattle.fold.specs.Output.{bytesOf}
 use Rattle.wire.specs.Bytes.{leOf, leBytes}
 use Rattle.wire.proofs.Numbers.{le-bytes, bytes-le, le-behind}
-use Rattle.transcript.specs.Judge.{neg}
 use Rattle.transcript.specs.How.{Agree}
 
 abbrev pub Bytes : List ℕ → Type 0
@@ -80,7 +78,3 @@ module _ (j : ℕ) (s t : List ℕ) where
   -- and the next is the same where they are
   pub the-next : Agree (j + 1) s t → leOf 8 s (8 * j) ≡ leOf 8 t (8 * j)
   the-next a = sym (le-take 8 (8 * (j + 1)) s (8 * j) (omega arith)) ∙ ap (λ (l : List ℕ). leOf 8 l (8 * j)) a ∙ le-take 8 (8 * (j + 1)) t (8 * j) (omega arith)
-
--- a reading of CNTR
-pub negated-is : (c : Bool) (v w : ℕ) → c ≡ true → w ≡ neg v → w ≡ cond c (neg v) v
-negated-is c v w h e = rw h e

@@ -1,6 +1,6 @@
 // A transcript, readings of 8 bytes each in log order, beside the readings of a log that replays.
 ghost use mathlib.Core.Path.{_≡_};
-ghost use mathlib.Core.Bool.{cond, _&&_};
+ghost use mathlib.Core.Bool.{_&&_};
 ghost use Prim.Native.Nat.{_≤_};
 ghost use lib.ListN.{length};
 ghost use lib.Dec.{eqb};
@@ -29,16 +29,6 @@ fn is_cntr(block: u8, register: u8) -> bool
     (block == 1) & (register == 2)
 }
 
-// A reading once each encoder CNTR reading is negated.
-fn turned(cntr: bool, v: u64) -> u64
-    ensures { λ r. ⌜ r ≡ cond cntr (neg v) v ⌝ }
-{
-    if cntr {
-        return negate(v);
-    }
-    v
-}
-
 // The transcript with the readings as they are.
 fn plainly(transcript: &[u8], out: &[u8]) -> Verdict
     requires { ⌜ length (now transcript) ≤ length (now out) ⌝ }
@@ -61,7 +51,7 @@ fn plainly(transcript: &[u8], out: &[u8]) -> Verdict
 }
 
 // The transcript with the readings as they are once each encoder CNTR reading is negated, record by record; where one differs, with the
-// readings as they are. While none does, the two are the same just if each CNTR reading is still, its own negation.
+// readings as they are. While none does, the two are the same just if each CNTR reading is still: its own negation.
 pub fn compare(log: &[u8], start: usize, out: &[u8], transcript: &[u8]) -> Verdict
     requires { ⌜ Ready (now log) start (now out) (now transcript) ⌝ }
     ensures { λ r. ⌜ Answer (now (log .entry)) (now (transcript .entry)) r ⌝ }
@@ -81,12 +71,23 @@ pub fn compare(log: &[u8], start: usize, out: &[u8], transcript: &[u8]) -> Verdi
             at += 16;
             continue;
         }
+        if is_cntr(log[at + 1], log[at + 3]) {
+            let t = wire::le64(transcript, 8 * j);
+            let v = wire::le64(out, 8 * j);
+            let w = negate(v);
+            if t != w {
+                break plainly(transcript, out);
+            }
+            still = still & (w == v);
+            at += 16;
+            j += 1;
+            continue;
+        }
+        let t = wire::le64(transcript, 8 * j);
         let v = wire::le64(out, 8 * j);
-        let w = turned(is_cntr(log[at + 1], log[at + 3]), v);
-        if wire::le64(transcript, 8 * j) != w {
+        if t != v {
             break plainly(transcript, out);
         }
-        still = still & (w == v);
         at += 16;
         j += 1;
     }
