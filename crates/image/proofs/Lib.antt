@@ -1,9 +1,2 @@
 pub mod Steps
-pub mod Flats
-pub mod Pads
-pub mod Lawful
-pub mod Passing
-pub mod Laid
-pub mod Loaded
 pub mod Whole
-pub mod Proved

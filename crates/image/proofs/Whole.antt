@@ -1,16 +1,14 @@
 -- The stream from its parts as the code makes them, and its image from the parts that the code writes.
 -- Assumes nothing.
 use mathlib.Core.Path.{_≡_, refl, sym, ap, _∙_, subst}
-use mathlib.Core.Bool.{Bool, true, false, _&&_, and-true}
+use mathlib.Core.Bool.{true}
 use mathlib.Core.List.{List, [], _∷_, _++_, append-assoc}
 use Prim.Native.Nat.{ℕ, _+_, _/_, _%_, _^_, _≤_, _<_}
 use native.Mathlib.Omega.{arith}
 use lib.ListN.{length, take, drop, length-append, take-append-drop}
 use lib.Seq.{sets, sets-eq, length-take-le}
-use lib.Dec.{ltb}
-use borrow.Author.Tests.{le-leb, lt-leb}
 use Rattle.numbers.specs.Bytes.{byte, leOf, leBytes}
-use Rattle.codec.specs.How.{Bytes, saveWord, loadWord, okWord, saveMany, loadMany, okMany, Each}
+use Rattle.codec.specs.How.{Bytes, saveWord, loadWord, saveMany, loadMany, Each}
 use Rattle.codec.proofs.Loops.{sets-append, many-long}
 use Rattle.codec.proofs.Each.{length-many}
 use Rattle.encoder.specs.declared.Encoder.{Encoder}
@@ -19,39 +17,19 @@ use Rattle.banks.specs.declared.State.{State}
 use Rattle.banks.specs.declared.Flat.{Flat}
 use Rattle.banks.specs.How.{stateOf}
 use Rattle.banks.proofs.Whole.{Whole}
-use Rattle.live.specs.declared.Stream.{Stream}
-use Rattle.live.specs.How.{liveOf}
+use Rattle.live_state.specs.declared.Stream.{Stream}
+use Rattle.live_state.specs.How.{liveOf}
 use Rattle.image_words.specs.Words.{FitsEncoder}
-use Rattle.image_words.specs.How.{i2cNumber, i2cOf, isI2c, encoderNumber, lowNumber, encoderOf, isEncoder, isRegisters, isSelect}
+use Rattle.image_words.specs.How.{i2cNumber, i2cOf, encoderNumber, lowNumber, encoderOf}
 use Rattle.image_words.proofs.Numbers.{low-number}
-use Rattle.image.specs.Image.{imageOf}
-use Rattle.image.specs.How.{FitsState, headNumber, savePwm, wordsOf, loadPwm, loadOf, isHead, isCarried, isState, withEncoders, withPwms, flatOf, okWave, okQuick, Loads, Saves}
-use Rattle.image.proofs.Flats.{laidOut, flat-back, state-loaded, lists-fit, FitsLists, Sized}
-use Rattle.image.proofs.Pads.{filled, zeros-past}
-use Rattle.image.proofs.Steps.{pwms-tested}
-use Rattle.image.proofs.Lawful.{head-small, head-fits}
-use Rattle.image.proofs.Passing.{passed, loads-same}
-use Rattle.image.proofs.Laid.{words-laid}
-use Rattle.image.proofs.Loaded.{image-long, stands}
-
--- ---- the test
-
-two-tested : (w : ℕ) (ok : List ℕ → ℕ → Bool) (s : List ℕ) (at : ℕ) → okMany w ok 2 s at ≡ ok s at && ok s (at + w)
-unfolding okMany
-two-tested w ok s at = rw (and-true (ok s (at + w)))
-
-pub state-not : (s : List ℕ) → length s < 864 → false ≡ isState s
-unfolding isState
-state-not s h = rw (lt-leb 864 (length s) h)
-
-pub state-tested : (s : List ℕ) (v : ℕ) (h k : Bool) (a b c : ℕ) (x : Bool) (d : ℕ) (y e r w q : Bool) → 864 ≤ length s → v ≡ leOf 8 s 0 → h ≡ isHead (v % 2 ^ 8) (v / 2 ^ 8 % 2 ^ 8) (v / 2 ^ 16)
-    → k ≡ okMany 1 (isCarried (16 + v / 2 ^ 8 % 2 ^ 8)) 16 s 16 → a ≡ leOf 8 s 32 → b ≡ leOf 8 s 40 → c ≡ leOf 8 s 48 → x ≡ isI2c c → d ≡ leOf 8 s 56 → y ≡ isI2c d
-    → e ≡ okMany 8 (okWord isEncoder) 20 s 64 → r ≡ okMany 16 (okWord isRegisters) 40 s 224 → w ≡ okMany 16 okWave 40 s 224 → q ≡ okMany 16 okQuick 40 s 224
-    → (h && (k && ((ltb a (2 ^ 40) && ltb b (2 ^ 40)) && ((x && y) && (e && (r && (w && q))))))) ≡ isState s
-unfolding isState
-state-tested s v h k a b c x d y e r w q long pv ph pk pa pb pc px pd py pe pr pw pq =
-    rw (ph, pk, px, py, pe, pr, pw, pq, pv, pa, pb, pc, pd)
-    (sym (rw (le-leb 864 (length s) long, two-tested 8 (okWord isSelect) s 32, two-tested 8 (okWord isI2c) s 48, pwms-tested s 40 224)))
+use Rattle.image_state.specs.Image.{imageOf}
+use Rattle.image_state.specs.How.{FitsState, headNumber, savePwm, wordsOf, loadPwm, loadOf, isState, withEncoders, withPwms, flatOf, Loads, Saves}
+use Rattle.image_state.proofs.Flats.{laidOut, flat-back, state-loaded, lists-fit, FitsLists, Sized}
+use Rattle.image_state.proofs.Pads.{filled, zeros-past}
+use Rattle.image_state.proofs.Lawful.{head-small, head-fits}
+use Rattle.image_state.proofs.Passing.{passed, loads-same}
+use Rattle.image_state.proofs.Laid.{words-laid}
+use Rattle.image_state.proofs.Loaded.{image-long, stands}
 
 -- ---- loading
 

@@ -36,9 +36,10 @@ use Rattle.banks.proofs.Whole.{Both, holds-first, holds-one, holds-both}
 use Rattle.walk.specs.Turn.{turnOf}
 use Rattle.fold.proofs.Turns.{lift-refused}
 use Rattle.walk.proofs.Replaying.{by-turn}
-use Rattle.image_words.specs.Words.{FitsI2c, FitsEncoder, FitsPwm}
-use Rattle.image.specs.Image.{FitsBank}
-use Rattle.image.specs.How.{isRefusal, FitsState}
+use Rattle.image_words.specs.Words.{FitsI2c, FitsEncoder}
+use Rattle.image_pwm.specs.Words.{FitsPwm}
+use Rattle.image_state.specs.Image.{FitsBank}
+use Rattle.image_state.specs.How.{isRefusal, FitsState}
 use Rattle.image_kept.proofs.Blocks.{fresh-encoder, on-select, on-cnfg, on-pins, fresh-pwm, on-write, on-ticks, fresh-i2c, on-i2c, on-answer}
 
 -- ---- one bank

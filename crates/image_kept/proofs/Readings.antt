@@ -36,10 +36,11 @@ use Rattle.banks.specs.declared.State.{State}
 use Rattle.banks.specs.State.{bankAt, withBank}
 use Rattle.walk.specs.Turn.{turnOf}
 use Rattle.walk.proofs.Replaying.{by-turn}
-use Rattle.image_words.specs.Words.{FitsI2c, FitsEncoder, FitsPwm}
-use Rattle.image_words.proofs.Numbers.{cnfg-small}
-use Rattle.image.specs.Image.{FitsBank}
-use Rattle.image.specs.How.{FitsState}
+use Rattle.image_words.specs.Words.{FitsI2c, FitsEncoder}
+use Rattle.image_pwm.specs.Words.{FitsPwm}
+use Rattle.image_pwm.proofs.Numbers.{cnfg-small}
+use Rattle.image_state.specs.Image.{FitsBank}
+use Rattle.image_state.specs.How.{FitsState}
 use Rattle.image_kept.proofs.Keeping.{turn-kept}
 
 -- ---- one register

@@ -1,22 +1,20 @@
 -- A block's words in bytes are its bytes.
 -- Assumes nothing.
-use mathlib.Core.Path.{_≡_, refl, ap, ap₂, _∙_}
-use mathlib.Core.List.{List, [], _∷_, _++_}
+use mathlib.Core.Path.{_≡_, refl, ap, _∙_}
+use mathlib.Core.List.{List, _∷_, _++_}
 use Prim.Native.Nat.{ℕ, zero, suc, _+_, _*_, _/_, _%_, _^_, _<_}
 use native.Mathlib.Omega.{arith}
 use native.Mathlib.Nat.{pow-suc, zero-add, suc-add, div-lt-iff-lt-mul}
 use Rattle.bits.specs.Bits.{num}
-use Rattle.fold.specs.Output.{bytesOf}
 use Rattle.numbers.specs.Bytes.{leBytes}
 use Rattle.encoder_count.specs.Count.{pattern}
 use Rattle.encoder.specs.declared.Encoder.{Encoder}
 use Rattle.encoder_count.proofs.Wrap.{pattern-lt}
-use Rattle.pwm.specs.declared.Pwm.{Pwm}
 use Rattle.i2c.specs.declared.I2c.{I2c}
 use Rattle.i2c.specs.I2c.{stateOf}
-use Rattle.image_words.specs.Words.{i2cBytes, FitsI2c, encoderBytes, FitsEncoder, pwmBytes, FitsPwm}
-use Rattle.image_words.specs.How.{i2cNumber, encoderNumber, registersNumber, waveNumber}
-use Rattle.image_words.proofs.Numbers.{state-small, cnfg-small, divider-small}
+use Rattle.image_words.specs.Words.{i2cBytes, FitsI2c, encoderBytes, FitsEncoder}
+use Rattle.image_words.specs.How.{i2cNumber, encoderNumber}
+use Rattle.image_words.proofs.Numbers.{state-small}
 use Rattle.image_words.proofs.Digits.{one}
 
 -- a byte, and what is above it
@@ -27,7 +25,7 @@ low n a v t h e =
     rw (p, q) (ap (λ (l : List ℕ). a ∷ l) e)
 
 -- m bytes, and what is above them
-lows : (m n a v : ℕ) (t : List ℕ) → a < 256 ^ m → leBytes n v ≡ t → leBytes (m + n) (a + 256 ^ m * v) ≡ leBytes m a ++ t
+pub lows : (m n a v : ℕ) (t : List ℕ) → a < 256 ^ m → leBytes n v ≡ t → leBytes (m + n) (a + 256 ^ m * v) ≡ leBytes m a ++ t
 lows zero n a v t h e =
     let p : a + 1 * v ≡ v = omega arith in
     rw (p, zero-add n) e
@@ -56,22 +54,3 @@ encoder-bytes e f =
     ≡ pattern (e .count) + 256 ^ 4 * (e .cnfg + 256 * (e .stat + 256 * (e .pins + 256 * (num (e .seen) + 256 * 0)))) = omega arith in
     ap (leBytes 8) p
     ∙ lows 4 4 (pattern (e .count)) _ _ (pattern-lt (e .count)) (low 3 (e .cnfg) _ _ (omega arith) (low 2 (e .stat) _ _ (omega arith) (low 1 (e .pins) _ _ (omega arith) (low 0 (num (e .seen)) 0 _ (omega arith) refl))))
-
--- a remainder in range is a byte
-pub remainder-small : (p : Pwm) → FitsPwm p → p .wave .remainder < 256
-remainder-small p f =
-    let a = f .5 in
-    let b = divider-small (p .registers .cs) (f .3) in
-    omega arith
-
-pub pwm-bytes : (p : Pwm) → FitsPwm p → leBytes 8 (registersNumber (p .registers)) ++ leBytes 8 (waveNumber (p .wave)) ≡ pwmBytes p
-unfolding registersNumber waveNumber bytesOf
-pwm-bytes p f =
-    let g = p .registers in
-    let w = p .wave in
-    let c = cnfg-small (g .cnfg) (f .2) in
-    let a : g .max + 2 ^ 16 * g .cmp + 2 ^ 32 * g .cnfg + 2 ^ 48 * g .cs ≡ g .max + 256 ^ 2 * (g .cmp + 256 ^ 2 * (g .cnfg + 256 ^ 2 * (g .cs + 256 ^ 2 * 0))) = omega arith in
-    let b : w .counter + 2 ^ 16 * w .remainder + 2 ^ 24 * num (w .output) ≡ w .counter + 256 ^ 2 * (w .remainder + 256 * (num (w .output) + 256 * 0)) = omega arith in
-    ap₂ (λ (x y : List ℕ). x ++ y)
-    (ap (leBytes 8) a ∙ lows 2 6 (g .max) _ _ (f .0) (lows 2 4 (g .cmp) _ _ (f .1) (lows 2 2 (g .cnfg) _ _ (omega arith) (lows 2 0 (g .cs) 0 [] (omega arith) refl))))
-    (ap (leBytes 8) b ∙ lows 2 6 (w .counter) _ _ (f .4) (low 5 (w .remainder) _ _ (remainder-small p f) (low 4 (num (w .output)) 0 _ (omega (arith, one (w .output))) refl)))

@@ -14,10 +14,10 @@ use Rattle.wire.specs.Decode.{asks, readsIn}
 use Rattle.trailer.specs.Trailer.{recordsOf}
 use Rattle.trailer.proofs.Laws.{few-records}
 use Rattle.replay.specs.Replay.{replayed}
-use Rattle.judge.specs.Judge.{plain, opposite, Judged, refused, other-length, same, negated, both, different}
-use Rattle.judge.specs.How.{Agree}
-use Rattle.judge.proofs.Numbers.{fewer}
-use Rattle.judge.proofs.Placed.{plain-long, opposite-long}
+use Rattle.transcript.specs.Judge.{plain, opposite, Judged, refused, other-length, same, negated, both, different}
+use Rattle.transcript.specs.How.{Agree}
+use Rattle.transcript.proofs.Numbers.{fewer}
+use Rattle.transcript.proofs.Placed.{plain-long, opposite-long}
 
 pub alike : (s t : List ℕ) → Dec (s ≡ t)
 alike = List-discrete ℕ-discrete

@@ -1,8 +1,3 @@
-pub mod Numbers
-pub mod Plain
-pub mod Records
-pub mod Placed
-pub mod Going
 pub mod Whole
 pub mod Still
 pub mod Answers

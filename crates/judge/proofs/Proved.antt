@@ -22,7 +22,7 @@ use Rattle.walk.specs.Turn.{turnOf}
 use Rattle.walk.proofs.Numbers.{Number, run-number}
 use Rattle.replay.proofs.Notes.{same-records, same-edition}
 use Rattle.replay.proofs.Proved as replays
-use Rattle.judge.specs.Judge.{negating, plain, opposite, Judged, same, negated, both}
+use Rattle.transcript.specs.Judge.{negating, plain, opposite, Judged, same, negated, both}
 use Rattle.judge.specs.Facts.{Shown}
 use Rattle.judge.proofs.Answers as answers
 use Rattle.judge.proofs.Still.{still-only, still-same}

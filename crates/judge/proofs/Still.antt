@@ -21,12 +21,12 @@ use Rattle.banks.specs.declared.State.{State}
 use Rattle.banks.specs.State.{fresh}
 use Rattle.replay.specs.Replay.{played, replayed}
 use Rattle.walk.specs.Turn.{turnOf}
-use Rattle.judge.specs.Judge.{neg, ofCntr, negating, plain, opposite}
-use Rattle.judge.specs.How.{transcriptBy}
+use Rattle.transcript.specs.Judge.{neg, ofCntr, negating, plain, opposite}
+use Rattle.transcript.specs.How.{transcriptBy}
 use Rattle.judge.specs.Facts.{Still}
-use Rattle.judge.proofs.Numbers.{said, said-small}
-use Rattle.judge.proofs.Records.{cntr-small}
-use Rattle.judge.proofs.Placed.{turned, goes-through, shown, turned-over}
+use Rattle.transcript.proofs.Numbers.{said, said-small}
+use Rattle.transcript.proofs.Records.{cntr-small}
+use Rattle.transcript.proofs.Placed.{turned, goes-through, shown, turned-over}
 
 -- ---- a number and its negation
 

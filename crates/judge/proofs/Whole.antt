@@ -23,9 +23,9 @@ use Rattle.replay.specs.Replay.{played, replayFrom, replayOf, replayed}
 use Rattle.walk.specs.Turn.{written}
 use Rattle.replay.proofs.Numbers.{accepted}
 use Rattle.replay.proofs.Proved as replays
-use Rattle.judge.specs.declared.Verdict.the-variants.{Refused}
-use Rattle.judge.specs.Judge.{plain, refused, other-length, Answer}
-use Rattle.judge.specs.How.{Ready}
+use Rattle.transcript.specs.declared.Verdict.the-variants.{Refused}
+use Rattle.transcript.specs.Judge.{plain, refused, other-length, Answer}
+use Rattle.transcript.specs.How.{Ready}
 
 -- the readings are in the output
 pub few : (log : List ℕ) (room : ℕ) (x : Stop) (out out′ : List ℕ) → x ≡ stopOf (replayOf log room) → out′ ≡ written (replayOf log room) out → 8 * x .readings ≤ length out′

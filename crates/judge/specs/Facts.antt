@@ -11,7 +11,7 @@ use Rattle.fold.specs.Run.{going, stopped}
 use Rattle.trailer.specs.Trailer.{recordsOf, editionIn}
 use Rattle.replay.specs.Replay.{played, replayed}
 use Rattle.walk.specs.Turn.{turnOf}
-use Rattle.judge.specs.Judge.{ofCntr, plain, Judged}
+use Rattle.transcript.specs.Judge.{ofCntr, plain, Judged}
 
 -- "all counts 0 or 2^31, or no such reading": what each record reads that reads an encoder's CNTR
 abbrev pub Still : Edition → List (List ℕ) → Type 0

@@ -4,9 +4,9 @@ use Prim.Native.Nat.{ℕ}
 use Rattle.decimal.specs.Put.{Put}
 use Rattle.decimal.specs.Ascii.{ascii}
 use Rattle.text.specs.Text.{line, refusedText, differentText}
-use Rattle.judge.specs.declared.Verdict.{Verdict}
-use Rattle.judge.specs.declared.Verdict.the-variants.{Same, Negated, Both, Different, Refused}
-use Rattle.judge.specs.Judge.{Answer}
+use Rattle.transcript.specs.declared.Verdict.{Verdict}
+use Rattle.transcript.specs.declared.Verdict.the-variants.{Same, Negated, Both, Different, Refused}
+use Rattle.transcript.specs.Judge.{Answer}
 
 abbrev pub verdictText : Verdict → List ℕ
 verdictText Same = line (ascii "same")

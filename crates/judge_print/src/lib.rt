@@ -1,6 +1,6 @@
 // What `rvz judge` prints: the verdict on the transcript in a file, by the log on standard input.
-use judge::Verdict;
 use libc::STDIN_FILENO;
+use transcript::Verdict;
 ghost use Rattle.io.specs.Counts.{Counts};
 ghost use Rattle.decimal.specs.Put.{Put};
 ghost use Rattle.judge_print.specs.Verdicts.{verdictText, VerdictSaid};

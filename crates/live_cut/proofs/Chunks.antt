@@ -14,10 +14,10 @@ use Rattle.fold.proofs.Streams.{no-wholes, all-left}
 use Rattle.edition.specs.Edition.{editionOf}
 use Rattle.walk.specs.Turn.{turnOf}
 use Rattle.walk.proofs.Numbers.{run-number}
-use Rattle.live.specs.Live.{Live, Taken, takenOf, chunkOf}
-use Rattle.live.specs.How.{finished}
-use Rattle.live.proofs.Two.{joined, ran, two-refused, two-going}
-use Rattle.live.proofs.Ways.{Way, again, taken, not-taken, way, refused-again}
+use Rattle.live_state.specs.Live.{Live, Taken, takenOf, chunkOf}
+use Rattle.live_state.specs.How.{finished}
+use Rattle.live_state.proofs.Two.{joined, ran, two-refused, two-going}
+use Rattle.live_state.proofs.Ways.{Way, again, taken, not-taken, way, refused-again}
 use Rattle.live_cut.specs.Cut.{Lent, bytesIn, streamed, Roomy}
 
 -- ---- after a refusal

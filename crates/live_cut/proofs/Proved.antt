@@ -28,9 +28,9 @@ use Rattle.replay.proofs.Proved.{replayed}
 use Rattle.travel.specs.Stretch.{pinsIn, encoderAfter}
 use Rattle.travel.specs.Demand.{Demand}
 use Rattle.travel.proofs.Proved.{demand-of-runs}
-use Rattle.live.specs.Live.{Live, Taken, freshOf, takenOf, chunkOf, endOf}
-use Rattle.live.proofs.Ways.{Way, again, taken, not-taken, way}
-use Rattle.live.proofs.Ways as ways
+use Rattle.live_state.specs.Live.{Live, Taken, freshOf, takenOf, chunkOf, endOf}
+use Rattle.live_state.proofs.Ways.{Way, again, taken, not-taken, way}
+use Rattle.live_state.proofs.Ways as ways
 use Rattle.live_cut.specs.Cut.{Lent, bytesIn, streamed, Roomy}
 use Rattle.live_cut.specs.Facts.{Cuts}
 use Rattle.live_cut.proofs.Chunks.{stays, taken-not-six, all-at-once}

@@ -3,7 +3,7 @@
 use Prim.Native.Nat.{ℕ}
 use mathlib.Core.Path.{_≡_}
 use mathlib.Core.List.{List, [], _∷_, _++_, map, flatten}
-use Rattle.live.specs.Live.{Live, Taken, chunkOf}
+use Rattle.live_state.specs.Live.{Live, Taken, chunkOf}
 
 -- a chunk's bytes, and the length of the output that is lent for it
 pub record Lent : Type 0 where

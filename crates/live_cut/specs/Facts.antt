@@ -17,7 +17,7 @@ use Rattle.banks.specs.State.{bankAt}
 use Rattle.replay.specs.Replay.{replayOf}
 use Rattle.travel.specs.Stretch.{pinsIn, encoderAfter, Stretch}
 use Rattle.travel.specs.Demand.{Demand}
-use Rattle.live.specs.Live.{Live, Taken, freshOf, takenOf, chunkOf, endOf}
+use Rattle.live_state.specs.Live.{Live, Taken, freshOf, takenOf, chunkOf, endOf}
 use Rattle.live_cut.specs.Cut.{Lent, bytesIn, streamed, Roomy}
 
 pub record Cuts : Type 0 where

@@ -11,7 +11,7 @@ use Rattle.fold.specs.declared.Stop.{Stop}
 use Rattle.fold.specs.Output.{numberOf, bytesOf, over, stopOf, outputOf}
 use Rattle.replay.specs.Replay.{replayOf}
 use Rattle.image_kept.proofs.Replayed.{replay-small}
-use Rattle.judge.proofs.Numbers.{in-bytes}
+use Rattle.transcript.proofs.Numbers.{in-bytes}
 use Rattle.judge.proofs.Whole.{few}
 use Rattle.text.specs.Text.{textOf, readingsIn}
 use Rattle.text.proofs.Room.{text-below}

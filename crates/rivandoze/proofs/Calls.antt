@@ -22,7 +22,7 @@ use Rattle.shrink.proofs.Whole.{smaller-small}
 use Rattle.sign.specs.declared.Signed.{Signed}
 use Rattle.sign.specs.Sign.{Told as Signs, signOf, signedOf}
 use Rattle.sign.proofs.Telling.{count-small}
-use Rattle.live.specs.Live.{chunkOf, endOf}
+use Rattle.live_state.specs.Live.{chunkOf, endOf}
 use Rattle.stream.specs.Stream.{On}
 use Rattle.stream.specs.declared.Told.{Told}
 use Rattle.writer.specs.declared.Written.{Written}

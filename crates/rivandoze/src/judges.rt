@@ -1,6 +1,6 @@
 // The judge of transcripts. Its answer is one number: the refusal in the low byte, 0 if none, above it the verdict, and above that the index
 // of the first reading that differs.
-ghost use Rattle.judge.specs.Judge.{Judged};
+ghost use Rattle.transcript.specs.Judge.{Judged};
 ghost use Rattle.words.specs.Word.{judgedIn};
 
 #[no_mangle]

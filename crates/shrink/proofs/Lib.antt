@@ -1,6 +1,3 @@
-pub mod Every
-pub mod Sorts
-pub mod Rules
+pub mod Applied
 pub mod Passes
-pub mod Same
 pub mod Whole

@@ -11,8 +11,8 @@ use borrow.Author.Tests.{eqb-true, eq-eqb, not-true}
 use Rattle.laws.proofs.Truth.{both-true}
 use Rattle.numbers.specs.Bytes.{leOf}
 use Rattle.travel.specs.Stretch.{names}
-use Rattle.shrink.specs.Shrink.{shows}
-use Rattle.shrink.specs.How.{writes}
+use Rattle.shrink_rule.specs.Drops.{shows}
+use Rattle.shrink_rule.specs.How.{writes}
 
 abbrev pub Between : ℕ → ℕ → List (List ℕ) → Type 0
 Between k i [] = Unit {0}

@@ -15,7 +15,7 @@ use Rattle.trailer.specs.declared.Trailer.the-variants.{Found, Refused}
 use Rattle.writer.specs.Writer.{logOf}
 use Rattle.writer.specs.How.{trailer}
 use Rattle.writer.proofs.Back.{trailer-back}
-use Rattle.shrink.proofs.Every.{Sixteen, concat-long, records-concat}
+use Rattle.shrink_rule.proofs.Every.{Sixteen, concat-long, records-concat}
 
 -- ---- a trailer that is found names an edition
 

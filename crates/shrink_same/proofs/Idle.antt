@@ -34,10 +34,11 @@ use Rattle.walk.proofs.Replaying.{by-turn, ticking, banking}
 use Rattle.travel.proofs.Events.{Event, pins, config, route, nothing, eventAt}
 use Rattle.travel.proofs.Counting.{Channel, onEvent}
 use Rattle.travel.proofs.Banks.{Sound, viewAt, turn-view, sound-turn, sound-fresh}
-use Rattle.shrink.specs.Shrink.{shows, drops}
-use Rattle.shrink.specs.How.{sortOf, none, dropsBy, learnsBy, rule}
-use Rattle.shrink.proofs.Sorts.{Row, row, applied-row}
-use Rattle.shrink.proofs.Same.{Agrees, agrees-first, learns-next, same-drops}
+use Rattle.shrink_rule.specs.Drops.{shows, drops}
+use Rattle.shrink_rule.specs.How.{sortOf, none, dropsBy, learnsBy, rule}
+use Rattle.shrink_rule.proofs.Sorts.{Row, row}
+use Rattle.shrink.proofs.Applied.{applied-row}
+use Rattle.shrink_rule.proofs.Same.{Agrees, agrees-first, learns-next, same-drops}
 use Rattle.shrink_same.proofs.Again.{pins-twice, not-ticked, map-itself}
 
 -- what is shown of an encoder would change nothing

@@ -27,9 +27,9 @@ use Rattle.travel.specs.Stretch.{names, pinsIn, keeps, undisturbed, Stretch}
 use Rattle.travel.proofs.Events.{pins, config, route, nothing, eventAt, pins-bank}
 use Rattle.travel.proofs.Counting.{Channel, onEvent}
 use Rattle.travel.proofs.Banks.{Sound, viewAt, turn-view, turn-pins, sound-turn, sound-fresh}
-use Rattle.shrink.specs.Shrink.{shows, drops}
-use Rattle.shrink.specs.How.{writes}
-use Rattle.shrink.proofs.Every.{Every}
+use Rattle.shrink_rule.specs.Drops.{shows, drops}
+use Rattle.shrink_rule.specs.How.{writes}
+use Rattle.shrink_rule.proofs.Every.{Every}
 use Rattle.shrink_same.proofs.Runs.{dropped-shows}
 
 -- ---- the first of the equal pins

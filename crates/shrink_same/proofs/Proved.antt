@@ -27,9 +27,10 @@ use Rattle.replay.proofs.Numbers.{accepted}
 use Rattle.replay.proofs.Proved as replay
 use Rattle.travel.specs.Stretch.{Stretch}
 use Rattle.writer.specs.Writer.{logOf}
-use Rattle.shrink.specs.Shrink.{drops, kept, smallerAt, smallerOf}
-use Rattle.shrink.specs.How.{rule, none}
-use Rattle.shrink.proofs.Every.{Sixteen}
+use Rattle.shrink.specs.Shrink.{smallerAt, smallerOf}
+use Rattle.shrink_rule.specs.Drops.{drops, kept}
+use Rattle.shrink_rule.specs.How.{rule, none}
+use Rattle.shrink_rule.proofs.Every.{Sixteen}
 use Rattle.shrink.proofs.Whole.{notes-count, sixteen, shorter, log-ready, log-kept, log-smaller}
 use Rattle.shrink_same.specs.Same.{Same, Kept, Stretches}
 use Rattle.shrink_same.proofs.Runs.{same-run, kept-twice, fewer-reads, kept-cut, kept-first, calm-kept, steps-kept, doubles-kept, steps-again, doubles-again}

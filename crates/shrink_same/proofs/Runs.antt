@@ -23,11 +23,11 @@ use Rattle.banks.specs.State.{fresh}
 use Rattle.replay.specs.Replay.{played}
 use Rattle.walk.specs.Turn.{turnOf}
 use Rattle.travel.specs.Stretch.{names, pinsIn, keeps, undisturbed}
-use Rattle.shrink.specs.Shrink.{shows, drops, kept}
-use Rattle.shrink.specs.How.{writes, none, rule}
-use Rattle.shrink.proofs.Every.{kept-every}
-use Rattle.shrink.proofs.Sorts.{rows}
-use Rattle.shrink.proofs.Same.{agrees-first, same-kept}
+use Rattle.shrink_rule.specs.Drops.{shows, drops, kept}
+use Rattle.shrink_rule.specs.How.{writes, none, rule}
+use Rattle.shrink_rule.proofs.Every.{kept-every}
+use Rattle.shrink.proofs.Applied.{rows}
+use Rattle.shrink_rule.proofs.Same.{agrees-first, same-kept}
 use Rattle.shrink_same.proofs.Idle.{Fits, fits-first, safe}
 
 -- ---- the same run

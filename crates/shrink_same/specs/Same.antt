@@ -9,7 +9,8 @@ use Rattle.trailer.specs.declared.Trailer.the-variants.{Found}
 use Rattle.replay.specs.Replay.{replayOf}
 use Rattle.shaft.specs.Shaft.{doubles, steps}
 use Rattle.travel.specs.Stretch.{pinsIn, Stretch}
-use Rattle.shrink.specs.Shrink.{kept, smallerOf}
+use Rattle.shrink.specs.Shrink.{smallerOf}
+use Rattle.shrink_rule.specs.Drops.{kept}
 
 pub record Same (log : List ℕ) (room : ℕ) (goes : replayOf log room .course ≡ going) : Type 0 where
   -- "The smaller log has the same edition"; "notes are kept"

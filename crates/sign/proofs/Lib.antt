@@ -11,7 +11,6 @@ pub mod Kept
 pub mod Fine
 pub mod Adding
 pub mod Settling
-pub mod Bytes
 pub mod Going
 pub mod Telling
 pub mod Proved

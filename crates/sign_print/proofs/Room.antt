@@ -13,7 +13,7 @@ use Rattle.decimal.specs.Digits.{digitsOf}
 use Rattle.decimal.proofs.Back.{few-digits, twenty-digits}
 use Rattle.shaft.specs.Shaft.{forward, backward, still}
 use Rattle.text.specs.Text.{stopText}
-use Rattle.sign.specs.Sign.{Entry, Verdict, settled, unsettled, verdictOf}
+use Rattle.sign_entry.specs.Entry.{Entry, Verdict, settled, unsettled, verdictOf}
 use Rattle.sign.specs.Facts.{Each}
 use Rattle.sign.proofs.Fine.{Fine}
 use Rattle.sign_print.specs.Said.{plural, counted, signed, stepsText, placeText, sumsText, travelText, verdictText, stretchText}

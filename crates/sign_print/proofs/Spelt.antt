@@ -19,10 +19,10 @@ use Rattle.fold.specs.Output.{over}
 use Rattle.shaft.specs.Shaft.{forward, backward, still}
 use Rattle.text.specs.Text.{line}
 use Rattle.numbers.specs.Bytes.{leOf, leBytes}
-use Rattle.sign.specs.Sign.{Entry, entryBytes, listing, complement, Verdict, settled, unsettled, verdictOf, verdictNumber}
+use Rattle.sign_entry.specs.Entry.{Entry, entryBytes, listing, complement, Verdict, settled, unsettled, verdictOf, verdictNumber}
 use Rattle.sign.specs.Facts.{Each}
 use Rattle.sign.proofs.Fine.{Fine}
-use Rattle.sign.proofs.Counted.{below}
+use Rattle.sign_entry.proofs.Bytes.{below}
 use Rattle.sign.proofs.Listing.{length-concat, concat-more, entry-long}
 use Rattle.sign.proofs.Adding.{eight}
 use Rattle.sign.proofs.Settling.{few-verdicts, each-at}

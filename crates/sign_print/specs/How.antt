@@ -12,7 +12,8 @@ use Rattle.decimal.specs.Ascii.{ascii}
 use Rattle.form.specs.Form.{formText}
 use Rattle.text.specs.Text.{line}
 use Rattle.numbers.specs.Bytes.{leOf}
-use Rattle.sign.specs.Sign.{stretchesOf, listing}
+use Rattle.sign.specs.Sign.{stretchesOf}
+use Rattle.sign_entry.specs.Entry.{listing}
 use Rattle.sign_print.specs.Said.{counted}
 
 -- two's complement

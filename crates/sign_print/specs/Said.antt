@@ -13,7 +13,8 @@ use Rattle.fold.specs.Output.{numberOf}
 use Rattle.replay.specs.Replay.{replayOf}
 use Rattle.shaft.specs.Shaft.{forward, backward, still}
 use Rattle.text.specs.Text.{line, stopText}
-use Rattle.sign.specs.Sign.{Entry, stretchesOf, Verdict, settled, unsettled, verdictOf}
+use Rattle.sign.specs.Sign.{stretchesOf}
+use Rattle.sign_entry.specs.Entry.{Entry, Verdict, settled, unsettled, verdictOf}
 
 -- `1 pin`, `2 pins`
 abbrev pub plural : List ℕ → ℕ → List ℕ

@@ -14,11 +14,11 @@ use Rattle.edition.specs.Edition.{known, editionOf}
 use Rattle.wire.specs.Decode.{readsIn}
 use Rattle.banks.specs.declared.State.{State}
 use Rattle.walk.specs.Turn.{turnOf}
-use Rattle.live.specs.Live.{Live, Taken, freshOf, takenOf, chunkOf}
-use Rattle.live.specs.How.{finished}
+use Rattle.live_state.specs.Live.{Live, Taken, freshOf, takenOf, chunkOf}
+use Rattle.live_state.specs.How.{finished}
 use Rattle.codec.specs.How.{Bytes}
 use Rattle.codec.proofs.Has.{bytes-both}
-use Rattle.image.specs.Image.{Fits}
+use Rattle.image_state.specs.Image.{Fits}
 use Rattle.image_kept.proofs.Keeping.{state-first, run-kept, run-refusal}
 
 -- ---- what is carried on

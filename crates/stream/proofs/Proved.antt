@@ -11,12 +11,12 @@ use lib.Seq.{take-at, getD-append-add}
 use Rattle.fold.specs.Output.{over}
 use Rattle.numbers.specs.Bytes.{byte}
 use Rattle.edition.specs.Edition.{known}
-use Rattle.live.specs.Live.{Live, Taken, freshOf, chunkOf}
+use Rattle.live_state.specs.Live.{Live, Taken, freshOf, chunkOf}
 use Rattle.live_cut.specs.Cut.{Lent, bytesIn, streamed}
 use Rattle.live_cut.proofs.Proved.{cuts}
-use Rattle.image.specs.Image.{size, imageOf, Fits, Stands}
-use Rattle.image.proofs.Loaded.{image-long}
-use Rattle.image.proofs.Proved.{images}
+use Rattle.image_state.specs.Image.{size, imageOf, Fits, Stands}
+use Rattle.image_state.proofs.Loaded.{image-long}
+use Rattle.image_state.proofs.Proved.{images}
 use Rattle.stream.specs.Stream.{startOf, startedIn}
 use Rattle.stream.specs.Facts.{Called, Streams, OnSettled}
 use Rattle.stream.proofs.Keeping.{fits-chunk, fits-fresh}

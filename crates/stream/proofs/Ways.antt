@@ -12,15 +12,15 @@ use mir.Val as val
 use Rattle.fold.specs.Output.{over}
 use Rattle.edition.specs.Edition.{known}
 use Rattle.numbers.specs.Bytes.{leOf}
-use Rattle.live.specs.Live.{Live, freshOf, chunkOf, endOf}
-use Rattle.live.specs.How.{liveOf, Good, Comes, writtenBy}
-use Rattle.live.specs.declared.Stream.{Stream}
-use Rattle.live.specs.declared.Chunked.{Chunked}
+use Rattle.live_state.specs.Live.{Live, freshOf, chunkOf, endOf}
+use Rattle.live_state.specs.How.{liveOf, Good, Comes, writtenBy}
+use Rattle.live_state.specs.declared.Stream.{Stream}
+use Rattle.live_state.specs.declared.Chunked.{Chunked}
 use Rattle.codec.specs.How.{Bytes}
-use Rattle.image.specs.Image.{size, imageOf, Fits, Stands}
-use Rattle.image.specs.How.{loadOf, isState, Loads, Saves}
-use Rattle.image.proofs.Passing.{passed}
-use Rattle.image.proofs.Loaded.{image-long, stands, only-states}
+use Rattle.image_state.specs.Image.{size, imageOf, Fits, Stands}
+use Rattle.image_state.specs.How.{loadOf, isState, Loads, Saves}
+use Rattle.image_state.proofs.Passing.{passed}
+use Rattle.image_state.proofs.Loaded.{image-long, stands, only-states}
 use Rattle.stream.specs.Stream.{startOf, startedIn, On}
 use Rattle.stream.specs.declared.Told.{Told}
 use Rattle.stream.proofs.Keeping.{fits-chunk, fits-fresh}

@@ -6,9 +6,9 @@ use mathlib.Core.List.{List, [], _∷_, _++_}
 use lib.ListN.{length}
 use Rattle.fold.specs.Output.{over}
 use Rattle.numbers.specs.Bytes.{byte}
-use Rattle.live.specs.Live.{Live, freshOf, takenOf, chunkOf}
+use Rattle.live_state.specs.Live.{Live, freshOf, takenOf, chunkOf}
 use Rattle.live_cut.specs.Cut.{Lent, bytesIn, Roomy}
-use Rattle.image.specs.Image.{imageOf, Stands}
+use Rattle.image_state.specs.Image.{imageOf, Stands}
 use Rattle.stream.specs.Stream.{startOf, startedIn, On}
 
 -- chunk after chunk on the lent bytes: each call leaves them, and writes of the readings vs, as the contract of `rvz_stream_chunk` says

@@ -8,8 +8,8 @@ use lib.ListN.{length}
 use lib.Dec.{leb, eqb}
 use Rattle.fold.specs.Output.{over}
 use Rattle.edition.specs.Edition.{known}
-use Rattle.live.specs.Live.{Live, freshOf}
-use Rattle.image.specs.Image.{size, imageOf, Stands}
+use Rattle.live_state.specs.Live.{Live, freshOf}
+use Rattle.image_state.specs.Image.{size, imageOf, Stands}
 
 -- "The edition is given at the start, with refusal 4"; then 6 if the state has too few bytes. Else its first bytes are the fresh stream's
 abbrev pub startOf : ℕ → ℕ → ℕ

@@ -15,19 +15,19 @@ use Rattle.fold.proofs.Laws as laws
 use Rattle.edition.specs.Edition.{editionOf}
 use Rattle.walk.specs.Turn.{turnOf}
 use Rattle.walk.proofs.Replaying.{asked}
-use Rattle.image.specs.How.{FitsState}
+use Rattle.image_state.specs.How.{FitsState}
 use Rattle.image_kept.proofs.Keeping.{state-first, run-kept}
 use Rattle.image_kept.proofs.Readings.{readings-small}
-use Rattle.judge.proofs.Numbers.{in-bytes}
+use Rattle.transcript.proofs.Numbers.{in-bytes}
 use Rattle.text.specs.Text.{linesOf, readingsIn, stopText}
 use Rattle.text.proofs.Room.{lines-below}
 use Rattle.printed.proofs.Prints.{put-counts}
 use Rattle.printed.proofs.Readings.{long-bytes, readings-back}
-use Rattle.live.specs.Live.{Live, Taken, freshOf, takenOf, chunkOf, endOf}
-use Rattle.live.specs.How.{finished, liveOf, Good, Comes, writtenBy}
-use Rattle.live.specs.declared.Stream.{Stream}
-use Rattle.live.specs.declared.Chunked.{Chunked}
-use Rattle.live.proofs.Ways.{Way, again, taken, not-taken, with-room, way}
+use Rattle.live_state.specs.Live.{Live, Taken, freshOf, takenOf, chunkOf, endOf}
+use Rattle.live_state.specs.How.{finished, liveOf, Good, Comes, writtenBy}
+use Rattle.live_state.specs.declared.Stream.{Stream}
+use Rattle.live_state.specs.declared.Chunked.{Chunked}
+use Rattle.live_state.proofs.Ways.{Way, again, taken, not-taken, with-room, way}
 use Rattle.stream_print.specs.Shown.{arrived, shownOf, lastOf}
 use Rattle.stream_print.specs.How.{Ready}
 

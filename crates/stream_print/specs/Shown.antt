@@ -2,7 +2,7 @@
 use mathlib.Core.List.{List}
 use Prim.Native.Nat.{ℕ}
 use Rattle.text.specs.Text.{linesOf, stopText}
-use Rattle.live.specs.Live.{Live, Taken, chunkOf, endOf}
+use Rattle.live_state.specs.Live.{Live, Taken, chunkOf, endOf}
 
 -- what a chunk of at most 4,096 bytes comes to, with room for 257 readings: 15 bytes that are carried and the chunk's finish no more records
 abbrev pub arrived : Live → List ℕ → Taken

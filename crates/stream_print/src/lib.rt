@@ -3,14 +3,14 @@ use decimal::Decimal;
 use edition::Edition;
 use libc::STDIN_FILENO;
 use libc::STDOUT_FILENO;
-use live::Stream;
+use live_state::Stream;
 use printed::Printed;
 ghost use mathlib.Core.Path.{_≡_};
 ghost use Prim.Native.Nat.{_≤_};
 ghost use lib.ListN.{length};
 ghost use Rattle.io.specs.Counts.{Counts};
 ghost use Rattle.decimal.specs.Put.{Put};
-ghost use Rattle.live.specs.How.{liveOf, Good};
+ghost use Rattle.live_state.specs.How.{liveOf, Good};
 ghost use Rattle.stream_print.specs.Shown.{arrived, shownOf, lastOf, noEdition};
 ghost use Rattle.stream_print.specs.How.{Ready};
 
@@ -50,7 +50,7 @@ pub fn end_text(text: &mut [u8], s: Stream) -> usize
         b"applied ",
         s.applied,
         b" refused ",
-        live::end(s) as u64,
+        live_state::end(s) as u64,
     )
 }
 
@@ -133,7 +133,7 @@ pub fn stream_input(text: &mut [u8]) -> Printed
             refused: false,
         };
     }
-    let ended = all(live::start(number));
+    let ended = all(live_state::start(number));
     Printed {
         size: end_text(text, ended),
         refused: false,

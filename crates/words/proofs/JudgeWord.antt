@@ -6,9 +6,9 @@ use native.Mathlib.Nat.{mul-le-mul-right}
 use native.Mathlib.Omega.{arith}
 use mir.Syntax.{w64}
 use mir.Val.{Fits}
-use Rattle.judge.specs.declared.Verdict.{Verdict}
-use Rattle.judge.specs.declared.Verdict.the-variants.{Different, Refused}
-use Rattle.judge.specs.Judge.{Judged, verdictNumbers, Answer}
+use Rattle.transcript.specs.declared.Verdict.{Verdict}
+use Rattle.transcript.specs.declared.Verdict.the-variants.{Different, Refused}
+use Rattle.transcript.specs.Judge.{Judged, verdictNumbers, Answer}
 use Rattle.judge.proofs.Answers.{small-index, no-two}
 use Rattle.words.specs.Word.{judgedIn}
 

@@ -3,7 +3,7 @@ use mathlib.Core.Path.{_≡_}
 use mathlib.Core.List.{List}
 use Prim.Native.Nat.{ℕ, _/_, _%_, _^_}
 use Rattle.rate.specs.Rate.{pwm, spi, Outcome}
-use Rattle.judge.specs.Judge.{Judged}
+use Rattle.transcript.specs.Judge.{Judged}
 
 -- of a call on a log or a stream: bits 8 up are one more number
 pub record Word (refused number w : ℕ) : Type 0 where

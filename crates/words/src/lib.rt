@@ -1,13 +1,13 @@
 // The one number that answers each call for C: the refusal in the low byte, 0 if none, and above it the parts of the answer.
 ghost use mathlib.Core.Path.{_≡_};
 ghost use Prim.Native.Nat.{_<_, _^_};
-ghost use Rattle.judge.specs.Judge.{verdictNumbers};
+ghost use Rattle.transcript.specs.Judge.{verdictNumbers};
 ghost use Rattle.rate.specs.Rate.{foundNumbers, ratedNumbers};
 ghost use Rattle.words.specs.Word.{Word, judgedIn};
 ghost use Rattle.words.specs.How.{findWord, rateWord};
-use judge::Verdict;
 use rate::Found;
 use rate::Rated;
+use transcript::Verdict;
 
 pub fn word(refused: u8, number: usize) -> u64
     requires { ⌜ number < 2 ^ 56 ⌝ }

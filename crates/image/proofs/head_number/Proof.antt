@@ -1,4 +1,4 @@
-use Rattle.image.specs.How.{headNumber}
+use Rattle.image_state.specs.How.{headNumber}
 use borrow.Author.Needs.{needs}
 use Rattle.image.proofs.head_number.Statement.{statement}
 use Rattle.image.proofs.head_number.Tie as tie

@@ -1,7 +1,0 @@
--- `judge::is_cntr` meets its contract. Assumes nothing.
-use borrow.Author.Needs.{needs}
-use Rattle.judge.proofs.is_cntr.Statement.{statement}
-use Rattle.judge.proofs.is_cntr.Tie as tie
-
-pub is-cntr-spec : {M : Type 1} → statement M
-is-cntr-spec = tie.close (tie.spec (λ c. search needs))

@@ -1,4 +1,0 @@
-pub mod Ways
-pub mod Two
-mod Steps
-mod Rooms

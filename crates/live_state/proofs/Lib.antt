@@ -1,0 +1,4 @@
+pub mod Ways
+pub mod Two
+pub mod Steps
+pub mod Rooms

@@ -1,0 +1,4 @@
+pub mod Every
+pub mod Sorts
+pub mod Rules
+pub mod Same

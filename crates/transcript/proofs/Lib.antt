@@ -1,0 +1,5 @@
+pub mod Numbers
+pub mod Plain
+pub mod Records
+pub mod Placed
+pub mod Going
