@@ -30,7 +30,7 @@ a mix, waits of any length|100|84
 a mix over both banks|110|96
 waits only, 20 PWM channels|950|930
 waits only, 40 PWM channels|1650|1610
-reads, judged|80|65|$judged
+reads, judged|80|66|$judged
 a mix, waits to 20 ticks, judged|100|92|$judged
 the finder, a request|80|58
 pins, changing bank, dumped|150|162|$dumped
@@ -44,7 +44,7 @@ a mix over both banks, shrunk|130|120|$shrunk"
 if has_stream; then
     limits+="
 pins, changing bank, streamed|100|97|$streamed
-reads, changing bank, streamed|70|66|$streamed
+reads, changing bank, streamed|70|67|$streamed
 a mix over both banks, streamed|110|111|$streamed
 a mix, a record a call|400|$stream_call"
 else
