@@ -1,4 +1,3 @@
-pub mod Arms
 pub mod Turns
 pub mod Sweep
 pub mod Full

@@ -1,3 +1,2 @@
 pub mod Bank
-pub mod How
 pub mod Facts

@@ -28,7 +28,7 @@ use Rattle.select.specs.Select.{encoderRouted, pwmRouted}
 use Rattle.bank.specs.declared.Bank.{Bank}
 use Rattle.bank.specs.Bank as bank
 use Rattle.bank.specs.Bank.{encoderAt, withEncoder, pwmAt, withPwm, withI2c, reroute, tickRouted}
-use Rattle.bank.specs.How.{refusalOf}
+use Rattle.refusals.specs.How.{refusalOf}
 use Rattle.bank.proofs.Turns.{passing, Number, turn-passes, turn-refused, turn-number}
 use Rattle.banks.specs.declared.State.{State}
 use Rattle.banks.specs.State.{fresh, bankAt, withBank}

@@ -30,7 +30,7 @@ use Rattle.i2c.specs.declared.I2c.{I2c}
 use Rattle.i2c.specs.I2c as i2c
 use Rattle.bank.specs.declared.Bank.{Bank}
 use Rattle.bank.specs.Bank as bank
-use Rattle.bank.specs.How.{refusalOf}
+use Rattle.refusals.specs.How.{refusalOf}
 use Rattle.bank.proofs.Turns.{passing, turn-passes, turn-refused}
 use Rattle.banks.specs.declared.State.{State}
 use Rattle.banks.specs.State.{bankAt, withBank}

@@ -1,4 +1,5 @@
-// Where a record that is not refused goes in the flat arrays, and what it does to the one element that is there.
+// Whether a record is refused, or where it goes in the flat arrays, and what it does to the one element that is there.
+use edition::Edition;
 use encoder::Encoder;
 use i2c::I2c;
 use pwm::Pwm;
@@ -7,11 +8,12 @@ ghost use mathlib.Core.Path.{_≡_};
 ghost use Prim.Native.Nat.{_<_};
 ghost use Rattle.encoder.specs.Encoder.{onPins, onCnfg};
 ghost use Rattle.pwm.specs.Pwm.{onWrite};
-ghost use Rattle.placed.specs.How.{Bounded, Inside, placedOf, i2cAfter};
+ghost use Rattle.placed.specs.How.{Bounded, Inside, spotOf, placedOf, i2cAfter};
 
 // A record by its channel's place in the array of both banks, and with its register and its value, in this order, where it has them;
-// or the number that it reads. Each number is 64 bits wide, so that the variants lie alike and none has to be kept in memory.
+// or the number that it reads, or the one that refuses it. Each number is 64 bits wide, so that the variants lie alike and none has to be kept in memory.
 pub enum Placed {
+    Refused(u64),
     Reads(u64),
     PinsAt(usize, u64),
     CnfgAt(usize, u64),
@@ -23,11 +25,11 @@ pub enum Placed {
     Wait(u64),
 }
 
-// With the SELECT and the I2C of its bank.
-pub fn place(select: u64, c: I2c, bank: usize, r: Record) -> Placed
+// One that is not refused, with the SELECT and the I2C of its bank.
+fn spot(select: u64, c: I2c, bank: usize, r: Record) -> Placed
     requires { ⌜ bank < 2 ⌝ }
     requires { ⌜ Bounded r ⌝ }
-    ensures { λ p. ⌜ p ≡ placedOf select c bank r ⌝ }
+    ensures { λ p. ⌜ p ≡ spotOf select c bank r ⌝ }
     ensures { λ p. ⌜ Inside p ⌝ }
 {
     match r {
@@ -50,6 +52,19 @@ pub fn place(select: u64, c: I2c, bank: usize, r: Record) -> Placed
         Record::Pins(channel, value) => Placed::PinsAt(10 * bank + channel, value),
         Record::Ticks(t) => Placed::Wait(t),
     }
+}
+
+pub fn place(edition: Edition, select: u64, c: I2c, bank: usize, r: Record) -> Placed
+    requires { ⌜ bank < 2 ⌝ }
+    requires { ⌜ Bounded r ⌝ }
+    ensures { λ p. ⌜ p ≡ placedOf edition select c bank r ⌝ }
+    ensures { λ p. ⌜ Inside p ⌝ }
+{
+    let number = refusals::refusal(edition, select, c, r);
+    if number != 0 {
+        return Placed::Refused(number as u64);
+    }
+    spot(select, c, bank, r)
 }
 
 // ---- what it does to the element that is there

@@ -52,7 +52,7 @@ is-other r s t e h = go (same s t) refl
     go true p = absurd (true≢false (sym (e .1 (same-is s t p)) ∙ h))
     go false p = refl
 
-module _ (r : Bool) (s t : List ℕ) (q x y : Question) (e : Tells r s t) where
+module _ {A : Type 0} (r : Bool) (s t : List ℕ) (q x y : A) (e : Tells r s t) where
   pub asks : r ≡ true → q ≡ x → q ≡ cond (same s t) x y
   asks h = taken (same s t) x y q (is-same r s t e h)
 

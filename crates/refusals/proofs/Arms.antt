@@ -10,7 +10,7 @@ use Rattle.edition.specs.declared.Edition.{Edition}
 use Rattle.encoder.specs.Encoder.{mode}
 use Rattle.i2c.specs.declared.I2c.{I2c}
 use Rattle.i2c.specs.I2c.{allowed, forbidden, code}
-use Rattle.bank.specs.How.{unrouted, cnfgRefusal, goRefusal, i2cRefusal, refusalOf}
+use Rattle.refusals.specs.How.{unrouted, cnfgRefusal, goRefusal, i2cRefusal, refusalOf}
 
 module _ (n : Edition) (select : ℕ) (c : I2c) (x y : Record) (o : ℕ) (e : x ≡ y) where
   pub refusal-arm : o ≡ refusalOf n select c y → o ≡ refusalOf n select c x

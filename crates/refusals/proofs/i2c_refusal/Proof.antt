@@ -1,7 +1,7 @@
-use Rattle.bank.proofs.Arms.{i2c-addr, i2c-cntl, i2c-go, i2c-unrouted}
+use Rattle.refusals.proofs.Arms.{i2c-addr, i2c-cntl, i2c-go, i2c-unrouted}
 use borrow.Author.Needs.{needs}
-use Rattle.bank.proofs.i2c_refusal.Statement.{statement}
-use Rattle.bank.proofs.i2c_refusal.Tie as tie
+use Rattle.refusals.proofs.i2c_refusal.Statement.{statement}
+use Rattle.refusals.proofs.i2c_refusal.Tie as tie
 
 pub i2c-refusal-spec : {M : Type 1} → statement M
 i2c-refusal-spec =

@@ -1,9 +1,9 @@
 use mathlib.Core.Path.{refl}
-use Rattle.bank.specs.How.{refusalOf}
-use Rattle.bank.proofs.Arms.{refusal-arm, refusal-routed, refusal-cnfg, refusal-i2c}
+use Rattle.refusals.specs.How.{refusalOf}
+use Rattle.refusals.proofs.Arms.{refusal-arm, refusal-routed, refusal-cnfg, refusal-i2c}
 use borrow.Author.Needs.{needs}
-use Rattle.bank.proofs.refusal.Statement.{statement}
-use Rattle.bank.proofs.refusal.Tie as tie
+use Rattle.refusals.proofs.refusal.Statement.{statement}
+use Rattle.refusals.proofs.refusal.Tie as tie
 
 pub refusal-spec : {M : Type 1} → statement M
 unfolding refusalOf

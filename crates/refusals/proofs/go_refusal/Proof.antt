@@ -1,7 +1,7 @@
-use Rattle.bank.proofs.Arms.{go-stops, go-passes, go-barred}
+use Rattle.refusals.proofs.Arms.{go-stops, go-passes, go-barred}
 use borrow.Author.Needs.{needs}
-use Rattle.bank.proofs.go_refusal.Statement.{statement}
-use Rattle.bank.proofs.go_refusal.Tie as tie
+use Rattle.refusals.proofs.go_refusal.Statement.{statement}
+use Rattle.refusals.proofs.go_refusal.Tie as tie
 
 pub go-refusal-spec : {M : Type 1} → statement M
 go-refusal-spec =
