@@ -7,7 +7,7 @@ Starts from every contract of a `pub extern "C" fn` and from the statement of ev
 `proofs/Proved.antt` and of each other one whose type is a statement of `specs/` by name, and follows each name through the `use` lines of `specs/` to the definition it stands for, and on from there.
 Prints each file with the lines that count: not blank, not a comment, not a `use`. Ends with status 1 where a definition of a
 `specs/How.antt` is reached, or where a name of the project is not found. Then the same of what the program prints, by the contracts of the
-crates `.._print`, which C does not see; there what says how a stream lies in memory is left out.
+crates `.._print` and `command`, which C does not see; there what says how a stream lies in memory is left out.
 """
 import pathlib
 import re
@@ -193,7 +193,7 @@ class Project:
 
     def printing(self):
         self.plain = True
-        return self.contracts("*_print", "pub fn", lambda name: True)
+        return sum(self.contracts(crates, "pub fn", lambda name: True) for crates in ("*_print", "command"))
 
     def theorems(self, ours):
         found = 0

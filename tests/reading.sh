@@ -31,7 +31,7 @@ planted() {
     cp "$3" "$work/$3"
 }
 must 'reading: a definition of How.antt is seen' planted 'rests on how the code gets there' \
-    's/^playOf e rs room = .*/playOf e rs room = refusalOf/; s/^use Rattle.banks.specs.State.{fresh}/&\nuse Rattle.bank.specs.How.{refusalOf}/' crates/replay/specs/Replay.antt
+    's/^playOf e rs room = .*/playOf e rs room = refusalOf/; s/^use Rattle.banks.specs.State.{fresh}/&\nuse Rattle.refusals.specs.How.{refusalOf}/' crates/replay/specs/Replay.antt
 must 'reading: a name that is nowhere is seen' planted 'not found' \
     's/use Rattle.replay.specs.Replay.{replayOf}/use Rattle.replay.specs.Replay.{replayOf, nowhere}/; s/≡ written (replayOf/≡ nowhere (replayOf/' crates/rivandoze/src/logs.rt
 rows=check/rows.py

@@ -1,9 +1,8 @@
-// What the program's arguments ask for, and what it says of its use. What the arguments are no contract can say: what talks to the system
-// promises how many bytes there are, and no more.
+// What the program's arguments ask for, and what it says of its use.
 use decimal::Decimal;
 ghost use mathlib.Core.Path.{_≡_};
 ghost use Rattle.io.specs.Counts.{Counts};
-ghost use Rattle.command.specs.Asked.{aloneOf, commandOf};
+ghost use Rattle.command.specs.Asked.{aloneOf, ofTwo, commandOf};
 
 // What the arguments ask for.
 pub enum Command {
@@ -38,10 +37,26 @@ fn alone(word: &[u8]) -> Command
     Command::Help
 }
 
+// By the first argument of two.
+fn of_two(word: &[u8]) -> Command
+    ensures { λ r. ⌜ r ≡ ofTwo (now (word .entry)) ⌝ }
+{
+    if check::same(word, b"judge") {
+        return Command::Judge;
+    }
+    if check::same(word, b"stream") {
+        return Command::Stream;
+    }
+    Command::Help
+}
+
 // By the first argument and how many there are, the program's own name among them.
-fn asked(word: &[u8], words: usize) -> Command
+pub fn asked(word: &[u8], words: usize) -> Command
     ensures { λ r. ⌜ r ≡ commandOf (now (word .entry)) words ⌝ }
 {
+    if words < 2 {
+        return Command::Replay;
+    }
     if words == 2 {
         return alone(word);
     }
@@ -52,28 +67,12 @@ fn asked(word: &[u8], words: usize) -> Command
         return Command::Help;
     }
     if words == 3 {
-        if check::same(word, b"judge") {
-            return Command::Judge;
-        }
-        if check::same(word, b"stream") {
-            return Command::Stream;
-        }
-        return Command::Help;
+        return of_two(word);
     }
     if words == 4 {
         return Command::Rate;
     }
     Command::Help
-}
-
-pub fn wanted() -> Command {
-    let words = os::arg_count();
-    if words < 2 {
-        return Command::Replay;
-    }
-    let mut word = io::buffer();
-    let n = os::arg(1, &mut word);
-    asked(&word[..n], words)
 }
 
 pub fn usage(text: &mut [u8]) -> usize

@@ -12,6 +12,14 @@ ghost use Prim.Native.Nat.{_≤_};
 ghost use lib.ListN.{length};
 ghost use Rattle.io.specs.Counts.{Counts};
 
+// Where there is no argument, `arg` gives no byte.
+fn wanted() -> Command {
+    let words = os::arg_count();
+    let mut word = io::buffer();
+    let n = os::arg(1, &mut word);
+    command::asked(&word[..n], words)
+}
+
 fn plain(size: usize) -> Printed
     ensures { λ r. ⌜ r ≡ record { size = size; refused = false } ⌝ }
 {
@@ -51,7 +59,7 @@ fn tell(text: &[u8], refused: bool) {
 // The longest text is that of `sign`.
 fn main() {
     let mut text = [0u8; 298920];
-    let printed = print(&mut text, command::wanted());
+    let printed = print(&mut text, wanted());
     let n = printed.size;
     tell(&text[..n], printed.refused);
 }

@@ -13,12 +13,6 @@ ghost use Rattle.sign_entry.specs.How.{beginBytes, pairOf, countedAt, Fi
 
 // ---- an entry
 
-fn wide(b: u8) -> usize
-    ensures { λ r. ⌜ (r ≡ b) × (r < 256) ⌝ }
-{
-    b as usize
-}
-
 fn put_pair(out: &mut [u8], at: usize, a: u64, b: u64)
     requires { ⌜ at + 16 ≤ length (now out) ⌝ }
     ensures { λ _. ⌜ now (out .exit) ≡ sets (now (out .entry)) at (pairOf a b) ⌝ }
@@ -52,7 +46,7 @@ pub fn go_on(out: &mut [u8], l: Line, last: usize, v: u8)
     ensures { λ _. ⌜ now (out .exit) ≡ countedAt (32 * l .place) last (places (l .pins) v) (now (out .entry)) ⌝ }
 {
     let at = 32 * l.place;
-    let tally = at + 16 + 4 * wide(encoder_pins::places(l.pins, v));
+    let tally = at + 16 + 4 * sign_line::wide(encoder_pins::places(l.pins, v));
     let n = numbers::le32(out, tally);
     numbers::put32(out, tally, n + 1);
     numbers::put32(out, at + 8, last as u64);

@@ -19,7 +19,7 @@ pub struct Line {
 
 // ---- a record, by its bytes
 
-fn wide(b: u8) -> usize
+pub fn wide(b: u8) -> usize
     ensures { λ r. ⌜ (r ≡ b) × (r < 256) ⌝ }
 {
     b as usize

@@ -10,7 +10,7 @@ use lib.IntN.{ℤ, pos, negsuc, natAbs, _+ℤ_, _-ℤ_}
 use Rattle.decimal.specs.Ascii.{ascii}
 use Rattle.decimal.specs.Digits.{digitsOf}
 use Rattle.fold.specs.Output.{numberOf}
-use Rattle.replay.specs.Replay.{replayOf}
+use Rattle.replay.specs.Replay.{replayed}
 use Rattle.shaft.specs.Shaft.{forward, backward, still}
 use Rattle.text.specs.Text.{line, stopText}
 use Rattle.sign.specs.Sign.{stretchesOf}
@@ -58,7 +58,7 @@ unfoldable pub stretchesText : List ℕ → List ℕ
 stretchesText log = flatten (map stretchText (stretchesOf log))
 
 unfoldable pub endText : List ℕ → List ℕ
-endText log = let x = replayOf log 16_384 in stopText (x .applied) (numberOf (x .course))
+endText log = let x = replayed log in stopText (x .applied) (numberOf (x .course))
 
 abbrev pub signText : List ℕ → List ℕ
 signText log = stretchesText log ++ endText log

@@ -13,18 +13,14 @@ unfolding commandOf
 asked-spec =
     tie.close
     (tie.spec
+    (λ c. search told)
     (λ c κs. search needs)
     (λ c. search told)
     (λ c. search needs)
     (λ c κs. search needs)
     (λ c. search told)
     (λ c. search told)
-    (λ c. search needs)
     (λ c κs. search needs)
-    (λ c. search told)
-    (λ c. search needs)
-    (λ c κs. search needs)
-    (λ c. search told)
     (λ c. search told)
     (λ c. search told)
     (λ c. search told))
