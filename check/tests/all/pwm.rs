@@ -189,31 +189,33 @@ fn a_round_of_one_count_arrives_at_zero_each_step() {
     assert_eq!(levels(5, 0, 0, 3), [1, 1, 1]);
 }
 
+/// The text of a log that gives a fresh PWM 0 these and CS 1, before the rest.
+fn from_fresh(cnfg: u8, max: u16, cmp: u16, rest: &str) -> String {
+    format!(
+        "write select 1
+        write pwm 0 cnfg {cnfg}
+        write pwm 0 max {max}
+        write pwm 0 cmp {cmp}
+        write pwm 0 cs 1
+        {rest}"
+    )
+}
+
 #[test]
 fn a_counter_above_the_top_goes_to_zero() {
-    let text = "write select 1
-        write pwm 0 cnfg 4
-        write pwm 0 max 100
-        write pwm 0 cmp 50
-        write pwm 0 cs 1
-        ticks 10
+    let rest = "ticks 10
         write pwm 0 max 5
         read pwm 0 cntr
         ticks 1
         read pwm 0 cntr
         read pwm 0 level";
-    assert_eq!(readings(text), [10, 0, 1]);
+    assert_eq!(readings(&from_fresh(4, 100, 50, rest)), [10, 0, 1]);
 }
 
 /// The same log of edition 2: on to 65,535, then to 0, and from there by MAX.
 #[test]
 fn a_counter_above_the_top_runs_on_in_edition_2() {
-    let text = "write select 1
-        write pwm 0 cnfg 4
-        write pwm 0 max 100
-        write pwm 0 cmp 50
-        write pwm 0 cs 1
-        ticks 10
+    let rest = "ticks 10
         write pwm 0 max 5
         ticks 1
         read pwm 0 cntr
@@ -227,7 +229,8 @@ fn a_counter_above_the_top_runs_on_in_edition_2() {
         read pwm 0 cntr
         ticks 1
         read pwm 0 cntr";
-    assert_eq!(readings(&in_edition(2, text)), [11, 65_535, 0, 0, 1, 5, 0]);
+    let text = in_edition(2, &from_fresh(4, 100, 50, rest));
+    assert_eq!(readings(&text), [11, 65_535, 0, 0, 1, 5, 0]);
 }
 
 #[test]
@@ -311,27 +314,17 @@ fn above_max_it_is_the_way_of_mode_0() {
 
 #[test]
 fn mode_0_ignores_max_and_cmp_and_has_no_output() {
-    let text = "write select 1
-        write pwm 0 cnfg 1
-        write pwm 0 max 3
-        write pwm 0 cmp 2
-        write pwm 0 cs 1
-        ticks 65535
+    let rest = "ticks 65535
         read pwm 0 cntr
         ticks 1
         read pwm 0 cntr
         read pwm 0 level";
-    assert_eq!(readings(text), [65_535, 0, 0]);
+    assert_eq!(readings(&from_fresh(1, 3, 2, rest)), [65_535, 0, 0]);
 }
 
 #[test]
 fn writing_mode_0_makes_the_output_0_and_mode_1_leaves_it() {
-    let text = "write select 1
-        write pwm 0 cnfg 4
-        write pwm 0 max 3
-        write pwm 0 cmp 2
-        write pwm 0 cs 1
-        ticks 4
+    let rest = "ticks 4
         read pwm 0 level
         write pwm 0 cnfg 5          # INV alone moves nothing
         read pwm 0 level
@@ -340,7 +333,7 @@ fn writing_mode_0_makes_the_output_0_and_mode_1_leaves_it() {
         read pwm 0 cntr
         write pwm 0 cnfg 4
         read pwm 0 level";
-    assert_eq!(readings(text), [1, 1, 0, 0, 0]);
+    assert_eq!(readings(&from_fresh(4, 3, 2, rest)), [1, 1, 0, 0, 0]);
 }
 
 #[test]
