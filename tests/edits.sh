@@ -10,7 +10,7 @@ failed=0
 
 python3 check/edits.py || failed=1
 
-# What the script must see in a log: its edit's function refused for another one alone, at a bound, for its shape; and a log that is not there.
+# What the script must see in a log: its edit's function refused for another one alone, at a bound, at another need, for its shape; and a log that is not there.
 # planted PATTERN SED LOG: told of it.
 planted() {
     mkdir -p "$work/$3" && sed "$2" "target/must-fail/$3/.log" >"$work/$3/.log" && python3 check/edits.py "$work" | grep "^FAIL edits: $3: " | grep -q "$1"
@@ -18,6 +18,7 @@ planted() {
 must 'edits: a function that is refused for another one alone is seen' planted 'climbed is not refused by itself' \
     's/^fn pwm::Pwm::climbed: not proved$/&; it calls `pwm::Pwm::moved`, which is not proved/' pwm/cmp_one_late
 must 'edits: a refusal at a bound is seen' planted 'refused at `cast-v`, not at its promise' 's/does not close `returns`/does not close `cast-v`/' edition/any_edition
+must 'edits: a refusal at another need than the promise is seen' planted 'climbed is refused at something else than its promise' 's/\.Post /.Pre /g' pwm/cmp_one_late
 must 'edits: a refusal for its shape is seen' planted 'refused for its shape' '0,/: error: /s//: error: `rw`: no occurrence of it; /' pwm/cmp_one_late
 absent() { mkdir "$work/none" && python3 check/edits.py "$work/none" | grep -q '^FAIL edits: pwm/cs_7_off: .* is not there'; }
 must 'edits: a log that is not there is seen' absent
