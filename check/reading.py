@@ -2,6 +2,7 @@
 """The auditor's reading list: which definitions the contracts of the exported calls and the theorems rest on.
 
 usage: reading.py            (from the project's root)
+       reading.py text       the definitions themselves, the lowest crates first, then the contracts of what C calls: all there is to read, in one piece
 
 Starts from every contract of a `pub extern "C" fn` and from the statement of every theorem, that is of each `pub` law in a
 `proofs/Proved.antt` and of each other one whose type is a statement of `specs/` by name, and follows each name through the `use` lines of `specs/` to the definition it stands for, and on from there.
@@ -88,7 +89,7 @@ class File:
 class Project:
     def __init__(self, root):
         self.root, self.files, self.sources = root, {}, {}
-        self.reached, self.missing = {}, []
+        self.reached, self.missing, self.calls = {}, [], []
         # whether how the code gets there, and what proofs define, is left out
         self.plain = False
 
@@ -185,6 +186,7 @@ class Project:
             for call in re.finditer(rf"^{kind} (\w+).*?^\{{", text, re.M | re.S):
                 if wanted(call[1]):
                     found += 1
+                    self.calls.append(call[0].rstrip("{\n"))
                     self.words(ghost, call[0], f"contract of {crate}::{call[1]}")
         return found
 
@@ -214,12 +216,37 @@ class Project:
         return found
 
 
-def counted(project):
-    """The lines of each file that count, of what has been reached."""
+def reached(project):
+    """What has been reached, as the numbers of lines of each file."""
     lines = {}
-    for (path, _), (file, numbers, _) in project.reached.items():
+    for (path, _), (_, numbers, _) in project.reached.items():
         lines.setdefault(path, set()).update(numbers)
-    return {path: sum(counts(line) for k, line in enumerate(pathlib.Path(path).read_text().split("\n")) if k in lines[path]) for path in lines}
+    return lines
+
+
+def counted(project):
+    """How many lines of each file count, of what has been reached."""
+    return {path: sum(counts(line) for k, line in enumerate(pathlib.Path(path).read_text().split("\n")) if k in numbers)
+            for path, numbers in reached(project).items()}
+
+
+def tell(project):
+    """What has been reached, with the comments above it."""
+    listed = re.findall(r"^(\w+):", (project.root / "crates.txt").read_text(), re.M)
+    for path, numbers in sorted(reached(project).items(), key=lambda of: (listed.index(pathlib.Path(of[0]).parts[1]), of[0])):
+        lines = pathlib.Path(path).read_text().split("\n")
+        for number in sorted(numbers):
+            while number > 0 and lines[number - 1].strip().startswith(("-- ", "// ")):
+                number -= 1
+                numbers.add(number)
+        print(f"==== {path}\n")
+        for number in sorted(numbers):
+            print(lines[number])
+            if number + 1 not in numbers:
+                print()
+    print("==== what C calls\n")
+    for call in project.calls:
+        print(f"{call}\n")
 
 
 def main():
@@ -228,6 +255,9 @@ def main():
     papers = sum(counted(project).values())
     more, beside = project.exported(True), project.theorems(True)
     signs = sum(counted(project).values())
+    if sys.argv[1:] == ["text"]:
+        tell(project)
+        return 0
     printing = project.printing()
     lines = counted(project)
     for path in sorted(lines):

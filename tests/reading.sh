@@ -18,6 +18,13 @@ else
     failed=1
 fi
 
+# The same as a text: as many lines that count, and each call of the header.
+python3 check/reading.py text >"$work/text"
+of_sign=$(sed -n 's/^ *\([0-9]*\) more, for the call and .*/\1/p' "$work/out")
+same 'reading: the text has every line of the list' $((lines + of_sign)) "$(sed '/^==== what C calls/,$d' "$work/text" | grep -cvE '^ *(--.*|//.*|)$|^==== ')"
+same 'reading: the text ends with the contract of each call of the header' "$(grep -o '^uint64_t rvz_[a-z_]*' include/rivandoze.h | cut -d' ' -f2 | sort)" \
+    "$(sed '1,/^==== what C calls/d' "$work/text" | sed -n 's/^pub extern "C" fn \([a-z_]*\)(.*/\1/p' | sort)"
+
 # The rows of docs/READING.md: every name in them is in the tree; and what one of them says of public functions.
 must 'reading: every name in the rows of docs/READING.md is in the tree, and every public function has a contract' python3 check/rows.py
 sed 's/^/    /' "$work/out"
