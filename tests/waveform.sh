@@ -61,9 +61,8 @@ through() {
 # counted ENCODER DUMP: sigrok's count. Its decoder tells a count when the next begins, so it gets a copy with one more step at the end; some
 # builds end in an error of Python's after their last line.
 counted() {
-    local a b end
+    local a end
     a=$(awk -v n="bank0_encoder$1_A" '$5 == n { print $4 }' "$2")
-    b=$(awk -v n="bank0_encoder$1_B" '$5 == n { print $4 }' "$2")
     end=$(grep '^#' "$2" | tail -n 1 | tr -d '#')
     {
         cat "$2"
