@@ -12,6 +12,7 @@ crates `.._print` and `command`, which C does not see; there what says how a str
 """
 import pathlib
 import re
+import signal
 import sys
 
 # What is beyond the papers: the crate and its call.
@@ -250,6 +251,11 @@ def tell(project):
 
 
 def main():
+    if sys.argv[1:] not in ([], ["text"]):
+        print(__doc__, file=sys.stderr)
+        return 2
+    # a reader that ends early, as a pager does, is no error
+    signal.signal(signal.SIGPIPE, signal.SIG_DFL)
     project = Project(pathlib.Path("."))
     calls, theorems = project.exported(False), project.theorems(False)
     papers = sum(counted(project).values())
