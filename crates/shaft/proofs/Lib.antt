@@ -1,5 +1,5 @@
 mod Group
-mod Phase
+pub mod Phase
 pub mod Balance
 pub mod Size
 pub mod Counted

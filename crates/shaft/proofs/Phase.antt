@@ -15,10 +15,10 @@ use Rattle.shaft.specs.Shaft.{quarter, phase, stepOf}
 
 -- ---- a test at each pair of numbers below 4
 
-abbrev four : List ℕ
+abbrev pub four : List ℕ
 four = replicate 4 0
 
-square : (f : ℕ → ℕ → Bool) → T (every (λ a _. every (λ b _. f a b) 0 four) 0 four) → (a b : ℕ) → a < 4 → b < 4 → T (f a b)
+pub square : (f : ℕ → ℕ → Bool) → T (every (λ a _. every (λ b _. f a b) 0 four) 0 four) → (a b : ℕ) → a < 4 → b < 4 → T (f a b)
 square f t a b h k = at (λ b _. f a b) four (at (λ a _. every (λ b _. f a b) 0 four) four t a h) b k
 
 -- and at each number

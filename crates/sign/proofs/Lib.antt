@@ -13,4 +13,5 @@ pub mod Adding
 pub mod Settling
 pub mod Going
 pub mod Telling
+pub mod Mirror
 pub mod Proved

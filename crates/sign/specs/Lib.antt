@@ -1,3 +1,4 @@
 pub mod Sign
 pub mod Facts
+pub mod Mirror
 pub mod How
