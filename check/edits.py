@@ -5,7 +5,7 @@ usage: edits.py [LOGS]    (from the project's root; LOGS: where `rt ci` or `rt m
 
 Where an edit changes code, the function that holds the changed line must be refused by itself, not since it calls one that is; of a table
 or a constant, some function. What the prover could not prove of it must be that the promise holds at a return; in a function with a loop it may
-be the loop's invariant too. Where an edit changes a definition, a law, a theorem or a function must be refused. What the prover says first must
+be any answer of its proof, the invariant or a bound, which the script cannot tell apart: read that log. Where an edit changes a definition, a law, a theorem or a function must be refused. What the prover says first must
 not be one of the phrases below. Prints `ok` or `FAIL` for each edit; status 1 where one fails.
 """
 import pathlib
