@@ -3,10 +3,13 @@
 
 usage: edits.py [LOGS]    (from the project's root; LOGS: where `rt ci` or `rt must-fail` left them, target/must-fail)
 
-Where an edit changes code, the function that holds the changed line must be refused by itself, not since it calls one that is; of a table
+An edit is one wrong program, under its file's name; or several, each behind a line `wrong: NAME`, which one check judges one by one: the prover takes
+a function by its own code and by the promises of those that it calls. Each of these is of code, in a function that no other of them changes.
+
+Where a wrong program changes code, the function that holds the changed line must be refused by itself, not since it calls one that is; of a table
 or a constant, some function. What the prover could not prove of it must be that the promise holds at a return; in a function with a loop it may
-be any answer of its proof, the invariant or a bound, which the script cannot tell apart: read that log. Where an edit changes a definition, a law, a theorem or a function must be refused. What the prover says first must
-not be one of the phrases below. Prints `ok` or `FAIL` for each edit; status 1 where one fails.
+be any answer of its proof, the invariant or a bound, which the script cannot tell apart: read that log. Where it changes a definition, a law, a theorem or a function must be refused. What the prover says first must
+not be one of the phrases below. Prints `ok` or `FAIL` for each wrong program; status 1 where one fails.
 """
 import pathlib
 import re
@@ -19,29 +22,39 @@ REFUSED = re.compile(r"^fn (\S+): (?:not proved$|no proof: .*does not close `([\
 ERROR = re.compile(r"^(\S+): error: (.*(?:\n  .*)*)", re.M)
 
 
-def changed(edit):
-    """The functions whose lines an edit changes, each with whether it has a loop; and whether the edit changes a definition."""
-    functions, rule, path = {}, False, None
+def programs(edit):
+    """The wrong programs of an edit by their names, each as the files and lines that it changes."""
+    found, name, path = {}, edit.stem, None
     for line in edit.read_text().splitlines():
-        if line.startswith("file: "):
-            path = edit.parent.parent / line[len("file: "):]
-            rule |= path.suffix == ".antt"
-        elif line.startswith("old: ") and path.suffix == ".rt":
-            text = path.read_text()
-            heads = list(HEAD.finditer(text))
-            at = text.index(line[len("old: "):])
-            for head, end in zip(heads, [h.start() for h in heads[1:]] + [len(text)]):
-                if head.start() <= at < end:
-                    functions[head[1]] = bool(LOOP.search(text, head.end(), end))
-    return functions, rule
+        word, _, text = line.partition(": ")
+        if word == "wrong":
+            name = text
+        elif word == "file":
+            path = edit.parent.parent / text
+        elif word == "old":
+            found.setdefault(name, []).append((path, text))
+    return found
 
 
-def wrong(edit, log):
-    """What is wrong with a refusal, or None."""
-    if not log.exists():
-        return f"{log} is not there: run rt must-fail {edit.parent.parent.name}"
-    said = log.read_text(errors="replace")
-    functions, rule = changed(edit)
+def functions_of(program):
+    """The functions whose lines a wrong program changes, each with whether it has a loop."""
+    functions = {}
+    for path, old in program:
+        text = path.read_text()
+        heads = list(HEAD.finditer(text)) if path.suffix == ".rt" else []
+        at = text.index(old)
+        for head, end in zip(heads, [h.start() for h in heads[1:]] + [len(text)]):
+            if head.start() <= at < end:
+                functions[head[1]] = bool(LOOP.search(text, head.end(), end))
+    return functions
+
+
+def fault(program, alone, said):
+    """What is wrong with the refusal of a program, alone in its edit or not, by what the prover said; or None."""
+    functions = functions_of(program)
+    rule = any(path.suffix == ".antt" for path, _ in program)
+    if not alone and (rule or not functions):
+        return "beside others it must be of code, in a function"
     refused = dict(REFUSED.findall(said))
     errors = [(place, error) for place, error in ERROR.findall(said) if "was not admitted" not in error]
     own = {name: name.split("::")[-1] for name in refused if not functions or name.split("::")[-1] in functions}
@@ -49,16 +62,32 @@ def wrong(edit, log):
         return f"{', '.join(sorted(functions)) or 'no function'} is not refused by itself"
     if not refused and not errors:
         return "nothing is refused by itself"
+    of_it = {name: [error for place, error in errors if f"/{function}/Proof.antt" in place] for name, function in own.items()}
+    first = [error for _, error in errors[:1]] if alone else [told[0] for told in of_it.values() if told]
     for phrase in SHAPE:
-        if errors and phrase in errors[0][1]:
-            return f"refused for its shape: {errors[0][1][:200]}"
+        for error in first:
+            if phrase in error:
+                return f"refused for its shape: {error[:200]}"
     for name, function in own.items():
         if not re.fullmatch(r"(returns(-\d+)?)?", refused[name]):
             return f"{name} is refused at `{refused[name]}`, not at its promise"
-        of_it = [error for place, error in errors if f"/{function}/Proof.antt" in place]
-        if not rule and of_it and ".Post " not in of_it[0] and not functions.get(function):
-            return f"{name} is refused at something else than its promise: {of_it[0][:200]}"
+        if not rule and of_it[name] and ".Post " not in of_it[name][0] and not functions.get(function):
+            return f"{name} is refused at something else than its promise: {of_it[name][0][:200]}"
     return None
+
+
+def faults(edit, log):
+    """Each wrong program of an edit by its name, with what is wrong with its refusal."""
+    found = programs(edit)
+    if not log.exists():
+        return dict.fromkeys(found, f"{log} is not there: run rt must-fail {edit.parent.parent.name}")
+    told = {name: fault(program, len(found) == 1, log.read_text(errors="replace")) for name, program in found.items()}
+    seen = {}
+    for name, program in found.items():
+        for function in functions_of(program):
+            if seen.setdefault(function, name) != name:
+                told[name] = f"{function} is changed by {seen[function]} too"
+    return told
 
 
 def main():
@@ -68,11 +97,12 @@ def main():
         return 1
     bad = 0
     for edit in sorted(pathlib.Path("crates").glob("*/must-fail/*.edit")):
-        name = f"{edit.parent.parent.name}/{edit.stem}"
-        fault = wrong(edit, logs / name / ".log")
-        bad += fault is not None
-        print(f"FAIL edits: {name}: {fault}" if fault else f"ok edits: {name}")
+        crate = edit.parent.parent.name
+        for name, told in faults(edit, logs / crate / edit.stem / ".log").items():
+            bad += told is not None
+            print(f"FAIL edits: {crate}/{name}: {told}" if told else f"ok edits: {crate}/{name}")
     return bad != 0
 
 
-sys.exit(main())
+if __name__ == "__main__":
+    sys.exit(main())

@@ -13,6 +13,8 @@ import pathlib
 import re
 import sys
 
+from edits import programs
+
 SECTIONS = [f"01 {name}" for name in "built log refusal select encoder pwm i2c rates sums errors contract shape".split()]
 SECTIONS += [f"02 {name}" for name in ["intro", *"abcdefghijklmn"]]
 SHOWN = {"proved": "proved", "compiler": "by the compiler", "tested only": "tested only", "document": "in a document", "not shown": "not shown"}
@@ -29,11 +31,11 @@ def names_in(path):
 
 
 def names_at(place, cache={}):
-    """What is declared at a place, with the edits of its crate."""
+    """What is declared at a place, with the wrong programs of its crate."""
     if place not in cache:
         crate = crates / place.split("/")[0]
         files = [crates / place] if "/" in place else [f for part in ("specs/*.antt", "proofs/*.antt", "src/*.rt") for f in crate.glob(part)]
-        cache[place] = set().union(*map(names_in, files), (edit.stem for edit in crate.glob("must-fail/*.edit")))
+        cache[place] = set().union(*map(names_in, files), *map(programs, crate.glob("must-fail/*.edit")))
         if place == "stand-in":
             cache[place] = {name for f in pathlib.Path("check/src/bin").glob("*/*.rs") for name in re.findall(r'"([\w-]+)"', f.read_text())}
     return cache[place]
