@@ -68,20 +68,42 @@ plant
 echo unsaid >crates/say/stdout
 expect 1 "$red" 'a program that writes something else'
 
+# What follows is of the gate alone, so that something quicker stands for rt: it makes target/ anew, as rt does, and ends as it is told.
+# answers TEXT STATUS
+answers() {
+    mkdir -p "$work/bin"
+    printf '#!/bin/sh\nsleep 1\nrm -rf target\nmkdir -p target/log\nsleep 1\necho "%s"\nexit %s\n' "$1" "$2" >"$work/bin/rt"
+    chmod +x "$work/bin/rt"
+}
+script() {
+    printf '#!/bin/sh\n%s\n' "$2" >"tests/$1.sh"
+    chmod +x "tests/$1.sh"
+}
+PATH=$work/bin:$PATH
+
 plant
-printf '#!/bin/sh\necho FAIL planted\nexit 1\n' >tests/planted.sh
+answers '3 passed, 0 failed' 0
+expect 0 '^4 passed, 0 failed$' 'what rt counts and what the tests count are added'
+answers '3 passed, 0 failed' 1
+expect 1 "$red" 'rt that ends badly'
+answers 'proved' 0
+expect 1 "$red" 'rt that counts nothing'
+
+answers '3 passed, 0 failed' 0
+script planted 'echo FAIL planted; exit 1'
 expect 1 "$red" 'a test that fails'
-
-plant
-printf '#!/bin/sh\nexit 0\n' >tests/planted.sh
+script planted 'exit 0'
 expect 1 "$red" 'a test script that runs no test'
-
-plant
-printf '#!/bin/sh\nsleep 2\necho ok slow\n' >tests/slow.sh
-chmod +x tests/slow.sh
+script planted 'echo ok planted'
+script slow 'sleep 2; echo ok slow'
 expect 0 '^5 passed, 0 failed$' 'a slow test beside others is waited for and counted'
-
-plant
-printf '#!/bin/sh\nsleep 1\necho ok slow\nexit 3\n' >tests/slow.sh
-chmod +x tests/slow.sh
+script slow 'sleep 1; echo ok slow; exit 3'
 expect 1 "$red" 'a test beside others that ends badly'
+rm tests/slow.sh
+
+script reading 'echo ok reading; : >target/kept'
+script planted '[ -e target/kept ] && echo ok planted'
+expect 0 '^5 passed, 0 failed$' 'a test beside the proofs begins once target/ is made anew, and is counted'
+script reading 'sleep 2; echo FAIL reading'
+script planted 'echo ok planted'
+expect 1 "$red" 'a test beside the proofs that fails'
