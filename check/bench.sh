@@ -12,14 +12,12 @@ trap 'rm -rf "$work"' EXIT
 rounds=${1:-400}
 need_rust64
 need_system64
-with=()
-! has_stream || with=(--cfg with_stream)
 
 # Callgrind needs the names of the functions, and takes long over what else there is to know of them.
 build() {
     rt_builds &&
         rust64 --crate-type rlib --crate-name rivandoze_check --out-dir "$work" check/src/lib.rs &&
-        rust64 --crate-name bench "${with[@]}" -C strip=debuginfo -o "$work/bench" --extern rivandoze_check="$work/librivandoze_check.rlib" \
+        rust64 --crate-name bench -C strip=debuginfo -o "$work/bench" --extern rivandoze_check="$work/librivandoze_check.rlib" \
             -L target/staticlib -l static=rivandoze check/bench/main.rs &&
         run64 "$work/bench" logs "$work/logs" &&
         make_system64 "$work/bench" "$work/logs"

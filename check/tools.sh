@@ -85,9 +85,6 @@ second_builds() {
 # What a program is linked with so that the library touches what it may not, as WRONG says.
 wrapped=(-Wl,--wrap=rvz_{replay,judge,dump,dump_read,write,shrink,sign,stream_{chunk,end,applied}} check/compare/wrong.c)
 
-# Whether the library has the calls of a stream: the tests of these are there as soon as the header is.
-has_stream() { grep -q '^uint64_t rvz_stream_start(' include/rivandoze.h; }
-
 # beside COMMAND..: tests in a process of their own, with a folder of their own, as many at a time as there are processors.
 started=0
 beside() {

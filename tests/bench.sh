@@ -40,16 +40,11 @@ a mix over both banks, signed|125|124|$signed
 pins, changing bank, written|42|$written
 a mix over both banks, written|44|$written
 pins, a third as before, shrunk|115|98|$shrunk
-a mix over both banks, shrunk|130|120|$shrunk"
-if has_stream; then
-    limits+="
+a mix over both banks, shrunk|130|120|$shrunk
 pins, changing bank, streamed|100|97|$streamed
 reads, changing bank, streamed|70|67|$streamed
 a mix over both banks, streamed|110|111|$streamed
 a mix, a record a call|400|$stream_call"
-else
-    echo 'bench: include/rivandoze.h has no rvz_stream_start, so there are no rows of the stream'
-fi
 
 # at_most NAME MOST GOT: one test. Nothing at all is no figure.
 at_most() {

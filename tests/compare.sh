@@ -6,6 +6,7 @@
 #   tests/compare.sh dump                           the dump and its reader, which tests/dump.sh runs
 #   tests/compare.sh dump-seconds N                 the same by chance for N seconds
 #   tests/compare.sh write, shrink, sign, stream    these calls, which tests/write.sh and so on run
+#   tests/compare.sh mistakes                       the comparison itself, without the library, which tests/mistakes.sh runs
 #   tests/compare.sh write-seconds N                and likewise of the others
 #   tests/compare.sh every-seconds N                every call of the header, the rates too, by chance for N seconds in all, with its counts
 #   tests/compare.sh rerun CALL FILE OUT PATTERN PLACE EDITION
@@ -25,10 +26,6 @@ programs=target/check/release
 mode=
 # The drivers, which all modes share.
 drivers=$PWD/target/check/drivers
-with=()
-! has_stream || with=(-DWITH_STREAM)
-# Where the bytes of a stream's state have what, once docs/STREAM.md says it.
-[ ! -e check/compare/edits.h ] || with+=(-DWITH_EDITS)
 undefined=(-g -fsanitize=undefined -fno-sanitize-recover=all)
 address=("${undefined[@]}" -fsanitize=address -static-lib{asan,ubsan,gcc})
 
@@ -37,7 +34,7 @@ build_driver() {
     local to=$drivers/$1
     [ -e "$to" ] && [ -z "$(find tests/compare.sh check/compare include target/staticlib/librivandoze.a -newer "$to" -print -quit)" ] && return
     mkdir -p "$drivers" &&
-        $cc -std=c99 -O2 -Wall -Wextra -Wpedantic -Werror "${with[@]}" -Iinclude "${@:2}" -o "$to.$$" check/compare/driver.c target/staticlib/librivandoze.a &&
+        $cc -std=c99 -O2 -Wall -Wextra -Wpedantic -Werror -Iinclude "${@:2}" -o "$to.$$" check/compare/driver.c target/staticlib/librivandoze.a &&
         mv "$to.$$" "$to"
 }
 
@@ -69,7 +66,7 @@ gives() {
 }
 
 # The comparison itself: a right driver is let pass, and each with a mistake is seen.
-test_of_the_tests() {
+test_of_the_comparison() {
     beside gives 'compare: a driver without a mistake is let pass' '0 0 0' short "$programs/stand-in" none
     local mistakes mistake
     mapfile -t mistakes < <("$programs/stand-in" list)
@@ -82,7 +79,6 @@ test_of_the_tests() {
         short bash -c '"$@"; exit 9' - "$programs/stand-in" none
     beside again sign-flipped
     beside again judge-low-32-bits
-    fences
 }
 
 # again MISTAKE: a saved log fails again by the printed command's words, and not with a right driver.
@@ -214,21 +210,29 @@ case ${1:-} in
     beside against compare full "${runner[@]}" "$drivers/plain"
     must 'compare: the answering program builds' build_answers
     beside rates "${runner[@]}" "$work/answers"
-    test_of_the_tests
+    fences
     watched
+    told
+    ;;
+mistakes)
+    must 'compare: the second program builds' second_builds
+    test_of_the_comparison
+    mistaken dump dump-stand-in 81
+    mistaken write call-stand-in 58
+    mistaken shrink call-stand-in 46
+    mistaken sign call-stand-in 52
+    mistaken stream call-stand-in 58
+    mistaken far call-stand-in 16
     told
     ;;
 dump)
     build
-    mistaken dump dump-stand-in 81
     compared dump dump{,-read}-{{reads,writes}-{before,behind}-output,reads-{before,behind}-input,writes-input}
     seen_by AddressSanitizer 'WRITE of size 1' dump-read-writes-behind-output "${system[@]}" "$drivers/wrong-address"
     told
     ;;
 write | shrink | sign)
     build
-    declare -A mistakes=([write]=58 [shrink]=46 [sign]=52)
-    mistaken "$1" call-stand-in "${mistakes[$1]}"
     compared "$1" "$1"-{{reads,writes}-{before,behind}-output,reads-{before,behind}-input,writes-input}
     [ "$1" != write ] || for wrong in write-notes-{reads-{before,behind}-input,writes-input}; do
         beside fenced "$wrong" "${runner[@]}" "$drivers/wrong"
@@ -237,20 +241,10 @@ write | shrink | sign)
     ;;
 stream)
     build
-    mistaken stream call-stand-in 58
-    mistaken far call-stand-in 16
-    if has_stream && [ -e check/compare/edits.h ]; then
-        beside against stream far-full "${runner[@]}" "$drivers/plain"
-    else
-        echo 'stream: there is no check/compare/edits.h, so no state is edited'
-    fi
-    if has_stream; then
-        # Where x86-64 is emulated this would take minutes.
-        [ "$(uname -m)" != x86_64 ] || beside against stream counted-full "$drivers/plain"
-        compared stream stream-writes-{behind-output,input,behind-state} stream-spoils-state-{on-6,on-19,behind-a-refusal,at-the-end,when-counted}
-    else
-        echo 'stream: include/rivandoze.h has no rvz_stream_start, so only the comparison itself is tried'
-    fi
+    beside against stream far-full "${runner[@]}" "$drivers/plain"
+    # Where x86-64 is emulated this would take minutes.
+    [ "$(uname -m)" != x86_64 ] || beside against stream counted-full "$drivers/plain"
+    compared stream stream-writes-{behind-output,input,behind-state} stream-spoils-state-{on-6,on-19,behind-a-refusal,at-the-end,when-counted}
     told
     ;;
 seconds | dump-seconds | write-seconds | shrink-seconds | sign-seconds | stream-seconds)

@@ -13,7 +13,6 @@ need_system64
 seed=${SEED:-$(date +%s)}
 second=target/check/release/rvz-check
 strict=(-std=c99 -O2 -Wall -Wextra -Wpedantic -Werror -Iinclude)
-! has_stream || strict+=(-DWITH_STREAM)
 thread=(-g -pthread -fsanitize=thread -static-lib{tsan,gcc})
 # Full logs are of the largest outputs too.
 full='reads pins steps'
@@ -62,11 +61,10 @@ lengths() {
     same "misuse: every call on ${#all[@]} logs, with all lengths" "0 calls" "$? ${said##* }"
     echo "    $said"
     ulimit -c 0
-    local calls='dump dump-read write shrink sign' wrongs
-    ! has_stream || calls+=' stream'
+    local calls='dump dump-read write shrink sign stream' wrongs
     wrongs=$(echo {reads,writes}-{before,behind}-output reads-{before,behind}-log writes-log judge-reads-{before,behind}-{log,transcript} judge-writes-transcript
         for call in $calls; do echo "$call"-{{reads,writes}-{before,behind}-output,reads-{before,behind}-input,writes-input}; done
-        ! has_stream || echo stream-writes-behind-state stream-spoils-state-{on-6,on-19,behind-a-refusal,at-the-end,when-counted})
+        echo stream-writes-behind-state stream-spoils-state-{on-6,on-19,behind-a-refusal,at-the-end,when-counted})
     for wrong in $wrongs; do
         (WRONG=$wrong run64 "$work/wrong" examples/logs/{turns,refused-11}.log) >"$work/out" 2>&1
         same "misuse: a library that $wrong is seen" seen "$([ $? -eq 0 ] && echo 'let pass' || echo seen)"

@@ -1,3 +1,3 @@
 #!/usr/bin/env bash
-# The stream, from outside: the library for C against the second program. Until the header has its calls, the comparison itself is tried.
+# The stream, from outside: the library for C against the second program, in chunks of any size.
 exec "$(dirname "$0")/compare.sh" stream

@@ -1,5 +1,4 @@
 //! The library beside the second program: nanoseconds in one process, in turns, and instructions under callgrind.
-//! The rows of the stream are there by `--cfg with_stream`.
 //!
 //! usage: bench logs FOLDER           makes what each row is about, a file each
 //!        bench times FOLDER ROUNDS   nanoseconds a record or a request: a line `ROW|LIBRARY|SECOND` for each row,
@@ -13,7 +12,6 @@ mod sides;
 use rivandoze_check::reference::judge::transcript;
 use rivandoze_check::reference::log::{Log, LOG_MAX, RECORDS_MAX};
 use rivandoze_check::reference::rate::HIGHEST_PWM_RATE;
-#[cfg(with_stream)]
 use rivandoze_check::reference::record::RECORD_LEN;
 use rows::{requests, Does, Row, ROWS};
 use sides::{Side, LIBRARY, SECOND};
@@ -27,10 +25,8 @@ const OUT_LEN: usize = 32;
 /// What the writer puts in front of the records: as much as there is room for before a full log.
 const NOTES: &[u8; 8] = b"measured";
 /// What a stream is given at a time.
-#[cfg(with_stream)]
 const CHUNK_LEN: usize = 4_096;
 /// More than the state of a stream takes.
-#[cfg(with_stream)]
 const STATE_LEN: usize = 65_536;
 /// Rounds between two looks at the clock.
 const AT_A_TIME: u64 = 8;
@@ -49,7 +45,6 @@ struct Bench {
     edition: u64,
     records: Vec<u8>,
     transcript: Vec<u8>,
-    #[cfg(with_stream)]
     state: Vec<u8>,
     out: Vec<u8>,
 }
@@ -68,7 +63,6 @@ impl Bench {
             asked,
             edition,
             records,
-            #[cfg(with_stream)]
             state: vec![0; STATE_LEN],
             out: vec![0; RECORDS_MAX * OUT_LEN],
         }
@@ -78,9 +72,7 @@ impl Bench {
     /// log than that.
     fn all_of(folder: &Path, row: &Row) -> Vec<Self> {
         let replays = match row.does {
-            Does::Replay | Does::Write | Does::Find => None,
-            #[cfg(with_stream)]
-            Does::StreamEach => None,
+            Does::Replay | Does::Write | Does::StreamEach | Does::Find => None,
             _ => Some((Does::Replay, LIBRARY)),
         };
         let all = [(row.does, LIBRARY), (row.does, SECOND)].into_iter();
@@ -120,7 +112,6 @@ impl Bench {
             Does::Dump => made((side.dump)(log, out)),
             Does::Sign => made((side.sign)(log, out)),
             Does::Shrink => made((side.shrink)(log, out)),
-            #[cfg(with_stream)]
             Does::Stream | Does::StreamEach => {
                 let chunk = match self.does {
                     Does::Stream => CHUNK_LEN,

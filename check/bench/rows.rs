@@ -23,10 +23,8 @@ pub enum Does {
     Write,
     Shrink,
     /// By chunks of many records.
-    #[cfg(with_stream)]
     Stream,
     /// By chunks of one record.
-    #[cfg(with_stream)]
     StreamEach,
 }
 
@@ -67,17 +65,13 @@ pub const ROWS: &[Row] = &[
     row("a mix over both banks, written", Does::Write, || mix(2, 20)),
     row("pins, a third as before, shrunk", Does::Shrink, idle_pins),
     row("a mix over both banks, shrunk", Does::Shrink, || mix(2, 20)),
-    #[cfg(with_stream)]
     row("pins, changing bank, streamed", Does::Stream, || {
         pins(10, 2)
     }),
-    #[cfg(with_stream)]
     row("reads, changing bank, streamed", Does::Stream, || reads(2)),
-    #[cfg(with_stream)]
     row("a mix over both banks, streamed", Does::Stream, || {
         mix(2, 20)
     }),
-    #[cfg(with_stream)]
     row("a mix, a record a call", Does::StreamEach, || mix(2, 20)),
 ];
 

@@ -1,7 +1,6 @@
 //! The calls of the library, and the same of the second program.
 
 use rivandoze_check::packed;
-#[cfg(with_stream)]
 use rivandoze_check::reference::Stream;
 
 extern "C" {
@@ -22,8 +21,6 @@ extern "C" {
     fn rvz_find_pwm(rate: u64, tolerance: u64) -> u64;
     fn rvz_find_spi(rate: u64, tolerance: u64) -> u64;
 }
-
-#[cfg(with_stream)]
 extern "C" {
     fn rvz_stream_start(edition: u64, state: *mut u8, state_len: usize) -> u64;
     fn rvz_stream_chunk(
@@ -51,7 +48,6 @@ pub struct Side {
     pub find_spi: fn(u64, u64) -> u64,
     /// The applied number of a run of these records, in chunks of so many bytes, without a refusal. The bytes for a state
     /// are the library's.
-    #[cfg(with_stream)]
     pub stream: fn(u64, &[u8], usize, &mut [u8], &mut [u8]) -> u64,
 }
 
@@ -87,7 +83,6 @@ pub const LIBRARY: Side = Side {
     // SAFETY: numbers only.
     find_pwm: |rate, tolerance| unsafe { rvz_find_pwm(rate, tolerance) },
     find_spi: |rate, tolerance| unsafe { rvz_find_spi(rate, tolerance) },
-    #[cfg(with_stream)]
     stream: |edition, records, chunk, state, mut out| {
         let (state, len) = (state.as_mut_ptr(), state.len());
         // SAFETY: all slices are whole, apart and never null, here and below.
@@ -114,7 +109,6 @@ pub const SECOND: Side = Side {
     sign: packed::sign,
     find_pwm: packed::find_pwm,
     find_spi: packed::find_spi,
-    #[cfg(with_stream)]
     stream: |edition, records, chunk, _, mut out| {
         let mut stream = Stream::start(edition).expect("an edition");
         for chunk in records.chunks(chunk) {

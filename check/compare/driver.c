@@ -109,8 +109,7 @@ static void take_lent(struct lent *lent, enum place place, size_t len) {
 
 static int kept(const struct lent *lent) { return memcmp(lent->copy, lent->area.start, whole(&lent->area)) == 0; }
 
-/* WITH_STREAM tells that the library has these calls. They are declared here as well as in the header, so that they must agree. */
-#ifdef WITH_STREAM
+/* Declared here as well as in the header, so that they must agree. */
 uint64_t rvz_stream_start(uint64_t edition, uint8_t *state, size_t state_len);
 uint64_t rvz_stream_chunk(uint8_t *state, size_t state_len, const uint8_t *chunk, size_t chunk_len, uint8_t *out, size_t out_len);
 uint64_t rvz_stream_end(const uint8_t *state, size_t state_len);
@@ -198,13 +197,8 @@ static uint64_t noise(const uint64_t words[4], uint64_t *good) {
 }
 
 /* Where the state has the applied number, of 8 bytes, and the count of each encoder, of 4, least byte first. edits.h has these two functions as
- * docs/STREAM.md says it; until there is one, nothing can be edited. */
-#ifdef WITH_EDITS
+ * docs/STREAM.md says it. */
 #include "edits.h"
-#else
-static size_t applied_at(void) { return SIZE_MAX; }
-static size_t count_at(uint64_t bank, uint64_t encoder) { return (void)bank, (void)encoder, SIZE_MAX; }
-#endif
 
 static void edit(size_t at, uint64_t value, size_t len) {
     if (at > state->len || len > state->len - at) {
@@ -309,7 +303,6 @@ static uint64_t play(const struct area *log, const struct area *script, const st
     free(old);
     return number;
 }
-#endif
 
 static uint64_t answer_to(enum call call, uint64_t edition, const struct area *log, const struct area *beside, const struct area *out) {
     switch (call) {
@@ -350,14 +343,11 @@ int main(void) {
         fill(&out, request.pattern);
 
         uint64_t answer[2];
-#ifdef WITH_STREAM
         if (request.call == STREAM) {
             uint64_t good = 1;
             answer[0] = play(&log.area, &beside.area, &out, &good);
             answer[1] = good && kept(&log) && kept(&beside);
-        } else
-#endif
-        {
+        } else {
             answer[0] = answer_to((enum call)request.call, request.edition, &log.area, &beside.area, &out);
             answer[1] = kept(&log) && kept(&beside);
         }
@@ -371,10 +361,8 @@ int main(void) {
             free(out.start);
         }
     }
-#ifdef WITH_STREAM
     free(states[0].bytes);
     free(states[1].bytes);
-#endif
     free(log.copy);
     free(beside.copy);
     return 0;

@@ -102,7 +102,6 @@ uint64_t __wrap_rvz_write(uint64_t edition, const uint8_t *notes, size_t notes_l
     return answer;
 }
 
-#ifdef WITH_STREAM
 uint64_t __real_rvz_stream_chunk(uint8_t *state, size_t state_len, const uint8_t *chunk, size_t chunk_len, uint8_t *out, size_t out_len);
 uint64_t __wrap_rvz_stream_chunk(uint8_t *state, size_t state_len, const uint8_t *chunk, size_t chunk_len, uint8_t *out, size_t out_len);
 uint64_t __real_rvz_stream_end(const uint8_t *state, size_t state_len);
@@ -138,4 +137,3 @@ uint64_t __wrap_rvz_stream_applied(const uint8_t *state, size_t state_len) {
     spoil("stream-spoils-state-when-counted", 1, state, state_len);
     return answer;
 }
-#endif

@@ -230,7 +230,6 @@ static void of_length(struct bytes log, size_t len) {
 
 /* ---- Streams ---- */
 
-#ifdef WITH_STREAM
 static uint8_t *state_room;
 
 static uint8_t *new_state(size_t len) {
@@ -309,7 +308,6 @@ static void streamed(struct bytes log, size_t distance) {
         in_chunks(log.at + log.len - TRAILER - distance, distance, steps[i], replayed, readings);
     }
 }
-#endif
 
 static void all_of(struct bytes log) {
     const size_t lens[] = {0, 1, 7, 8, 9, log.len - 1, log.len, log.len + 1, 32767, 32768, 32769, 65536, FENCED};
@@ -318,9 +316,7 @@ static void all_of(struct bytes log) {
     judged(log);
     dumped();
     written_again(log, distance_of(log));
-#ifdef WITH_STREAM
     streamed(log, distance_of(log));
-#endif
 }
 
 /* Numbers of any size go to the rate calls. */
@@ -346,9 +342,7 @@ static void rates(void) {
 int main(int argc, char **argv) {
     for (int i = 0; i < 2; i++) inputs[i].room = fenced();
     out_room = fenced();
-#ifdef WITH_STREAM
     state_room = fenced();
-#endif
     for (int i = 1; i < argc; i++) {
         struct bytes log = file(argv[i]);
         about = argv[i];

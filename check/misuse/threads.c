@@ -40,7 +40,6 @@ static uint64_t all_calls(struct bytes log, struct lent *lent) {
         sum = with(sum, rvz_write(edition, log.at, 5, records, records_len, out, sizeof lent->out));
         sum = bytes_too(sum, out, sizeof lent->out);
     }
-#ifdef WITH_STREAM
     const size_t whole = RVZ_STREAM_BYTES, step = 40;
     uint8_t *state = lent->text;
     sum = with(sum, rvz_stream_start(log.at[log.len - 4], state, whole));
@@ -50,7 +49,6 @@ static uint64_t all_calls(struct bytes log, struct lent *lent) {
         sum = bytes_too(sum, out, step);
     }
     sum = with(with(sum, rvz_stream_end(state, whole)), rvz_stream_applied(state, whole));
-#endif
     sum = with(sum, rvz_find_pwm(40000 + log.len, 1000000));
     return with(with(sum, rvz_find_spi(40000 + log.len, 1000000)), rvz_rate_pwm(1 + log.len % 7, log.len));
 }
