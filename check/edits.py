@@ -6,11 +6,12 @@ usage: edits.py [LOGS]    (from the project's root; LOGS: where `rt ci` or `rt m
 An edit is one wrong program, under its file's name; or several, each behind a line `wrong: NAME`, which one check judges one by one: the prover takes
 a function by its own code and by the promises of those that it calls. Each of these is of code, in a function that no other of them changes.
 
-Where a wrong program changes code, the function that holds the changed line must be refused by itself, not since it calls one that is; of a table
+Where a wrong program changes code, each function that holds a changed line must be refused by itself, not since it calls one that is; of a table
 or a constant, some function. What the prover could not prove of it must be that the promise holds at a return; in a function with a loop it may
 be any answer of its proof, the invariant or a bound, which the script cannot tell apart: read that log. Where it changes a definition, a law, a theorem or a function must be refused. What the prover says first must
 not be one of the phrases below. Prints `ok` or `FAIL` for each wrong program; status 1 where one fails.
 """
+import collections
 import pathlib
 import re
 import sys
@@ -58,8 +59,9 @@ def fault(program, alone, said):
     refused = dict(REFUSED.findall(said))
     errors = [(place, error) for place, error in ERROR.findall(said) if "was not admitted" not in error]
     own = {name: name.split("::")[-1] for name in refused if not functions or name.split("::")[-1] in functions}
-    if not rule and not own:
-        return f"{', '.join(sorted(functions)) or 'no function'} is not refused by itself"
+    left = sorted(set(functions) - set(own.values()))
+    if not rule and (left or not own):
+        return f"{', '.join(left) or 'no function'} is not refused by itself"
     if not refused and not errors:
         return "nothing is refused by itself"
     of_it = {name: [error for place, error in errors if f"/{function}/Proof.antt" in place] for name, function in own.items()}
@@ -83,8 +85,11 @@ def faults(edit, log):
         return dict.fromkeys(found, f"{log} is not there: run rt must-fail {edit.parent.parent.name}")
     told = {name: fault(program, len(found) == 1, log.read_text(errors="replace")) for name, program in found.items()}
     seen = {}
+    named = collections.Counter(name for path in edit.parent.parent.glob("src/*.rt") for name in HEAD.findall(path.read_text()))
     for name, program in found.items():
         for function in functions_of(program):
+            if len(found) > 1 and named[function] > 1:
+                told[name] = f"the crate has {named[function]} functions {function}, which a log's lines do not tell apart"
             if seen.setdefault(function, name) != name:
                 told[name] = f"{function} is changed by {seen[function]} too"
     return told

@@ -19,6 +19,7 @@ planted() {
 }
 must 'edits: a function that is refused for another one alone is seen' planted '/cmp_one_late: climbed is not refused by itself' \
     's/^fn pwm::Pwm::climbed: not proved$/&; it calls `pwm::Pwm::moved`, which is not proved/' pwm/side_by_side
+must 'edits: one of several changed functions that is proved is seen' planted '/registers_crossed: write_max is not refused by itself' '/^fn pwm::Pwm::write_max: /s/no.*/proved/' pwm/side_by_side_2
 must 'edits: a refusal at a bound is seen' planted '/any_edition: .* refused at `cast-v`, not at its promise' 's/does not close `returns`/does not close `cast-v`/' edition/any_edition
 must 'edits: a refusal at another need than the promise is seen' planted '/cmp_one_late: .*climbed is refused at something else than its promise' 's/\.Post /.Pre /g' pwm/side_by_side
 must 'edits: a refusal for its shape is seen' planted '/cmp_one_late: refused for its shape' \
