@@ -10,9 +10,9 @@ use Rattle.encoder.specs.Encoder as encoder
 use Rattle.pwm.specs.declared.Pwm.{Pwm}
 use Rattle.pwm.specs.Pwm as pwm
 use Rattle.fold.specs.Turn.{Turn, goes, refused}
-use Rattle.select.specs.Select.{encoderRouted, pwmRouted}
+use Rattle.select.specs.Select.{encoder_routed, pwm_routed}
 use Rattle.bank.specs.declared.Bank.{Bank}
-use Rattle.bank.specs.Bank.{encoderAt, pwmAt, withEncoder, withPwm, toEncoder, toPwm}
+use Rattle.bank.specs.Bank.{encoder_at, pwm_at, with_encoder, with_pwm, to_encoder, to_pwm}
 use Rattle.bank.specs.Facts.{Only}
 
 -- where a test lets it go to d it has gone to d
@@ -21,14 +21,14 @@ gone true c d e = cc
 gone false c d e = let z : ◌≡◌ {A = ℕ} 0 1 = cc in absurd (omega arith)
 
 pub only : Only
-only port i j b c other = (on-encoder, on-pwm)
+only port i j b c other = (on_encoder, on_pwm)
   where
-    on-encoder : (f : Encoder → Encoder) → toEncoder port i f b ≡ goes c → encoderAt j c ≡ encoderAt j b
-    on-encoder f e =
-        ap (encoderAt j) (sym (gone (encoderRouted port b.select i) c (withEncoder i b (f (encoderAt i b))) e))
-        ∙ get_or-set_other b.encoders i j (f (encoderAt i b)) encoder.fresh other
+    on_encoder : (f : Encoder → Encoder) → to_encoder port i f b ≡ goes c → encoder_at j c ≡ encoder_at j b
+    on_encoder f e =
+        ap (encoder_at j) (sym (gone (encoder_routed port b.select i) c (with_encoder i b (f (encoder_at i b))) e))
+        ∙ get_or-set_other b.encoders i j (f (encoder_at i b)) encoder.fresh other
 
-    on-pwm : (f : Pwm → Pwm) → toPwm port i f b ≡ goes c → pwmAt j c ≡ pwmAt j b
-    on-pwm f e =
-        ap (pwmAt j) (sym (gone (pwmRouted port b.select i) c (withPwm i b (f (pwmAt i b))) e))
-        ∙ get_or-set_other b.pwms i j (f (pwmAt i b)) pwm.fresh other
+    on_pwm : (f : Pwm → Pwm) → to_pwm port i f b ≡ goes c → pwm_at j c ≡ pwm_at j b
+    on_pwm f e =
+        ap (pwm_at j) (sym (gone (pwm_routed port b.select i) c (with_pwm i b (f (pwm_at i b))) e))
+        ∙ get_or-set_other b.pwms i j (f (pwm_at i b)) pwm.fresh other

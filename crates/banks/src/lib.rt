@@ -1,7 +1,7 @@
 // Both banks: as two bank structs, which is how a state is passed and returned, and laid out flat, which is how the replay walks over it.
 ghost use Rattle.std.specs.Prelude.{◌≡◌, ◌<◌};
-ghost use Rattle.banks.specs.State.{fresh, withBank};
-ghost use Rattle.banks.specs.How.{state_of, bankIn};
+ghost use Rattle.banks.specs.State.{fresh, with_bank};
+ghost use Rattle.banks.specs.How.{state_of, bank_in};
 
 use bank::Bank;
 use encoder::Encoder;
@@ -32,7 +32,7 @@ pub fn fresh() -> State
 // Bank k becomes b.
 fn laid(f: Flat, k: usize, b: Bank) -> Flat
     requires { k < 2 }
-    ensures { state_of result ≡ withBank k (state_of f) b }
+    ensures { state_of result ≡ with_bank k (state_of f) b }
 {
     let mut g = f;
     for i in 0..10 {
@@ -68,7 +68,7 @@ pub fn laid_out(s: State) -> Flat
 
 fn bank_in(f: Flat, k: usize) -> Bank
     requires { k < 2 }
-    ensures { result ≡ bankIn k f }
+    ensures { result ≡ bank_in k f }
 {
     let mut b = bank::fresh();
     for i in 0..10 {

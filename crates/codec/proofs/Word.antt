@@ -7,54 +7,54 @@ use Prim.Native.Nat.{ℕ, zero, suc, ◌+◌, ◌*◌, ◌/◌, ◌^◌, ◌<◌
 use native.Mathlib.Omega.{arith}
 use native.Mathlib.Nat.{pow-suc, div-lt_iff_lt-mul}
 use Rattle.numbers.specs.Bytes.{byte, le_of, le_bytes}
-use Rattle.codec.specs.How.{Has, Bytes, Lawful, Number, saveWord, loadWord, okWord}
+use Rattle.codec.specs.How.{Has, Bytes, Lawful, Number, save_word, load_word, ok_word}
 
-le-has : (n v : ℕ) (s : List ℕ) (at : ℕ) → v < 256 ^ n → Has s at (le_bytes n v) → le_of n s at ≡ v
+le_has : (n v : ℕ) (s : List ℕ) (at : ℕ) → v < 256 ^ n → Has s at (le_bytes n v) → le_of n s at ≡ v
 unfolding le_of
-le-has zero v s at h k = omega arith
-le-has (suc n) v s at h k =
+le_has zero v s at h k = omega arith
+le_has (suc n) v s at h k =
     let small : v / 256 < 256 ^ n = (div-lt_iff_lt-mul {k = 256} {x = v} {y = 256 ^ n} (omega arith)).1 (rw pow-suc at h) in
-    rw (k.0, le-has n (v / 256) s (suc at) small k.1) (omega arith)
+    rw (k.0, le_has n (v / 256) s (suc at) small k.1) (omega arith)
 
-has-le : (n : ℕ) (s : List ℕ) (at : ℕ) → Bytes s → Has s at (le_bytes n (le_of n s at))
+has_le : (n : ℕ) (s : List ℕ) (at : ℕ) → Bytes s → Has s at (le_bytes n (le_of n s at))
 unfolding le_of
-has-le zero s at b = tt
-has-le (suc n) s at b =
+has_le zero s at b = tt
+has_le (suc n) s at b =
     let h = b at in
     let e : (byte s at + 256 * le_of n s (suc at)) / 256 ≡ le_of n s (suc at) = omega arith in
-    (omega arith, rw e (has-le n s (suc at) b))
+    (omega arith, rw e (has_le n s (suc at) b))
 
-le-small : (n : ℕ) (s : List ℕ) (at : ℕ) → Bytes s → le_of n s at < 256 ^ n
+le_small : (n : ℕ) (s : List ℕ) (at : ℕ) → Bytes s → le_of n s at < 256 ^ n
 unfolding le_of
-le-small zero s at b = omega arith
-le-small (suc n) s at b = rw (pow-suc 256 n) (omega (arith, b at, le-small n s (suc at) b))
+le_small zero s at b = omega arith
+le_small (suc n) s at b = rw (pow-suc 256 n) (omega (arith, b at, le_small n s (suc at) b))
 
-le-bytes : (n v : ℕ) → Bytes (le_bytes n v)
-le-bytes zero v i = omega arith
-le-bytes (suc n) v zero = omega arith
-le-bytes (suc n) v (suc i) = le-bytes n (v / 256) i
+le_bytes_lem : (n v : ℕ) → Bytes (le_bytes n v)
+le_bytes_lem zero v i = omega arith
+le_bytes_lem (suc n) v zero = omega arith
+le_bytes_lem (suc n) v (suc i) = le_bytes_lem n (v / 256) i
 
-pub word-lawful : {X : Type 0} {good : ℕ → Bool} {number : X → ℕ} {value : ℕ → X} {Fits : X → Type 0} → Number good number value Fits
-    → Lawful 8 (saveWord number) (loadWord value) (okWord good) Fits
-word-lawful {X} {good} {number} {value} {Fits} l = record {
+pub word_lawful : {X : Type 0} {good : ℕ → Bool} {number : X → ℕ} {value : ℕ → X} {Fits : X → Type 0} → Number good number value Fits
+    → Lawful 8 (save_word number) (load_word value) (ok_word good) Fits
+word_lawful {X} {good} {number} {value} {Fits} l = record {
   long = λ x f. refl;
-  bytes = λ x f. le-bytes 8 (number x);
+  bytes = λ x f. le_bytes_lem 8 (number x);
   back = λ x f s at h. ap value (held x f s at h) ∙ l.back x f;
   passes = λ x f s at h. ap good (held x f s at h) ∙ l.passes x f;
-  image = λ s at y h. rw (l.image (le_of 8 s at) (le-small 8 s at y) h) (has-le 8 s at y);
-  fits = λ s at y h. l.fits (le_of 8 s at) (le-small 8 s at y) h;
+  image = λ s at y h. rw (l.image (le_of 8 s at) (le_small 8 s at y) h) (has_le 8 s at y);
+  fits = λ s at y h. l.fits (le_of 8 s at) (le_small 8 s at y) h;
 }
   where
-    held : (x : X) → Fits x → (s : List ℕ) (at : ℕ) → Has s at (saveWord number x) → le_of 8 s at ≡ number x
-    held x f s at h = le-has 8 (number x) s at (l.small x f) h
+    held : (x : X) → Fits x → (s : List ℕ) (at : ℕ) → Has s at (save_word number x) → le_of 8 s at ≡ number x
+    held x f s at h = le_has 8 (number x) s at (l.small x f) h
 
 -- any number of 8 bytes
-pub any-number : Number (λ v. true) (λ (v : ℕ). v) (λ v. v) (λ v. v < 256 ^ 8)
-any-number = record { small = λ v h. h; back = λ v h. refl; passes = λ v h. refl; image = λ v h g. refl; fits = λ v h g. h }
+pub any_number : Number (λ v. true) (λ (v : ℕ). v) (λ v. v) (λ v. v < 256 ^ 8)
+any_number = record { small = λ v h. h; back = λ v h. refl; passes = λ v h. refl; image = λ v h g. refl; fits = λ v h g. h }
 
 -- any byte
-pub byte-lawful : Lawful 1 (λ v. v ∷ []) byte (λ s at. true) (λ v. v < 256)
-byte-lawful = record {
+pub byte_lawful : Lawful 1 (λ v. v ∷ []) byte (λ s at. true) (λ v. v < 256)
+byte_lawful = record {
   long = λ x f. refl;
   bytes = λ x f i. one x f i;
   back = λ x f s at h. h.0;

@@ -33,27 +33,27 @@ pub record Number {X : Type 0} (good : ℕ → Bool) (number : X → ℕ) (value
   pub image : (v : ℕ) → v < 256 ^ 8 → good v ≡ true → number (value v) ≡ v
   pub fits : (v : ℕ) → v < 256 ^ 8 → good v ≡ true → Fits (value v)
 
-abbrev pub saveWord : {X : Type 0} → (X → ℕ) → X → List ℕ
-saveWord number x = le_bytes 8 (number x)
+abbrev pub save_word : {X : Type 0} → (X → ℕ) → X → List ℕ
+save_word number x = le_bytes 8 (number x)
 
-abbrev pub loadWord : {X : Type 0} → (ℕ → X) → List ℕ → ℕ → X
-loadWord value s at = value (le_of 8 s at)
+abbrev pub load_word : {X : Type 0} → (ℕ → X) → List ℕ → ℕ → X
+load_word value s at = value (le_of 8 s at)
 
-abbrev pub okWord : (ℕ → Bool) → List ℕ → ℕ → Bool
-okWord good s at = good (le_of 8 s at)
+abbrev pub ok_word : (ℕ → Bool) → List ℕ → ℕ → Bool
+ok_word good s at = good (le_of 8 s at)
 
 -- an array of n values, each w bytes wide
-unfoldable pub saveMany : {X : Type 0} → (X → List ℕ) → List X → List ℕ
-saveMany save [] = []
-saveMany save (x ∷ xs) = save x ++ saveMany save xs
+unfoldable pub save_many : {X : Type 0} → (X → List ℕ) → List X → List ℕ
+save_many save [] = []
+save_many save (x ∷ xs) = save x ++ save_many save xs
 
-unfoldable pub loadMany : {X : Type 0} → ℕ → (List ℕ → ℕ → X) → ℕ → List ℕ → ℕ → List X
-loadMany w load zero s at = []
-loadMany w load (suc n) s at = load s at ∷ loadMany w load n s (at + w)
+unfoldable pub load_many : {X : Type 0} → ℕ → (List ℕ → ℕ → X) → ℕ → List ℕ → ℕ → List X
+load_many w load zero s at = []
+load_many w load (suc n) s at = load s at ∷ load_many w load n s (at + w)
 
-unfoldable pub okMany : ℕ → (List ℕ → ℕ → Bool) → ℕ → List ℕ → ℕ → Bool
-okMany w ok zero s at = true
-okMany w ok (suc n) s at = ok s at && okMany w ok n s (at + w)
+unfoldable pub ok_many : ℕ → (List ℕ → ℕ → Bool) → ℕ → List ℕ → ℕ → Bool
+ok_many w ok zero s at = true
+ok_many w ok (suc n) s at = ok s at && ok_many w ok n s (at + w)
 
 abbrev pub Each : {X : Type 0} → (X → Type 0) → List X → Type 0
 Each Fits [] = Unit {0}

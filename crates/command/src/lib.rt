@@ -1,7 +1,7 @@
 // What the program's arguments ask for, and what it says of its use.
 ghost use Rattle.std.specs.Prelude.{◌≡◌};
 ghost use Rattle.io.specs.Counts.{IsPrefixLen};
-ghost use Rattle.command.specs.Asked.{aloneOf, ofTwo, commandOf};
+ghost use Rattle.command.specs.Asked.{alone_of, of_two, command_of};
 
 use decimal::Decimal;
 
@@ -22,7 +22,7 @@ pub enum Command {
 
 // By the first argument, one word.
 fn alone(word: &[u8]) -> Command
-    ensures { result ≡ aloneOf word.now }
+    ensures { result ≡ alone_of word.now }
 {
     if check::same(word, b"dump") {
         return Command::Dump;
@@ -41,7 +41,7 @@ fn alone(word: &[u8]) -> Command
 
 // By the first argument of two.
 fn of_two(word: &[u8]) -> Command
-    ensures { result ≡ ofTwo word.now }
+    ensures { result ≡ of_two word.now }
 {
     if check::same(word, b"judge") {
         return Command::Judge;
@@ -54,7 +54,7 @@ fn of_two(word: &[u8]) -> Command
 
 // By the first argument and how many there are, the program's own name among them.
 pub fn asked(word: &[u8], words: usize) -> Command
-    ensures { result ≡ commandOf word.now words }
+    ensures { result ≡ command_of word.now words }
 {
     if words < 2 {
         return Command::Replay;

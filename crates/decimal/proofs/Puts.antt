@@ -6,28 +6,28 @@ use native.Mathlib.Nat.{zero-add, add-zero, add-suc, suc-add}
 use native.Mathlib.Omega.{arith, min_cases}
 use lib.ListN.{length, set, length-append, take, drop}
 use lib.Seq.{sets, length-sets, set_out, sets-eq, take_at, drop_at}
-use Rattle.decimal.specs.Digits.{digitsOf}
+use Rattle.decimal.specs.Digits.{digits_of}
 use Rattle.decimal.specs.Put.{Put}
-use Rattle.decimal.proofs.Back.{digits-small, digits_more}
+use Rattle.decimal.proofs.Back.{digits_small, digits_more}
 
-sets-append : (s t out : List ℕ) (at : ℕ) → sets (sets out at s) (at + length s) t ≡ sets out at (s ++ t)
-sets-append [] t out at = rw add-zero
-sets-append (a ∷ s) t out at = rw (add-suc, ← suc-add at (length s)) (sets-append s t (set out at a) (suc at))
+sets_append : (s t out : List ℕ) (at : ℕ) → sets (sets out at s) (at + length s) t ≡ sets out at (s ++ t)
+sets_append [] t out at = rw add-zero
+sets_append (a ∷ s) t out at = rw (add-suc, ← suc-add at (length s)) (sets_append s t (set out at a) (suc at))
 
 -- there is no room
-sets-out : (s out : List ℕ) (at : ℕ) → length out ≤ at → sets out at s ≡ out
-sets-out [] out at h = refl
-sets-out (a ∷ s) out at h = rw (set_out out at a h) (sets-out s out (suc at) (omega arith))
+sets_out : (s out : List ℕ) (at : ℕ) → length out ≤ at → sets out at s ≡ out
+sets_out [] out at h = refl
+sets_out (a ∷ s) out at h = rw (set_out out at a h) (sets_out s out (suc at) (omega arith))
 
 -- s and then t, from the place after what of s had room
 sets_then : (s t out : List ℕ) (at : ℕ) → sets (sets out at s) (at + min (length s) (length out - at)) t ≡ sets out at (s ++ t)
 sets_then s t out at =
-    min_cases (length s) (length out - at) _ (λ h e. rw e (sets-append s t out at)) λ h e.
+    min_cases (length s) (length out - at) _ (λ h e. rw e (sets_append s t out at)) λ h e.
     let l = length-sets out at s in
-    rw e (sets-out t (sets out at s) (at + (length out - at)) (omega arith) ∙ sym (sets-out t (sets out at s) (at + length s) (omega arith)) ∙ sets-append s t out at)
+    rw e (sets_out t (sets out at s) (at + (length out - at)) (omega arith) ∙ sym (sets_out t (sets out at s) (at + length s) (omega arith)) ∙ sets_append s t out at)
 
-pub put-nothing : (out : List ℕ) (at : ℕ) → Put out at [] out at
-put-nothing out at = record { bytes = refl; place = omega arith }
+pub put_nothing : (out : List ℕ) (at : ℕ) → Put out at [] out at
+put_nothing out at = record { bytes = refl; place = omega arith }
 
 pub put_then : (a b c s t : List ℕ) (p q r : ℕ) → Put a p s b q → Put b q t c r → Put a p (s ++ t) c r
 put_then a b c s t p q r x y = record {
@@ -35,12 +35,12 @@ put_then a b c s t p q r x y = record {
   place = omega (arith, x.place, y.place, length-append s t, ap length x.bytes, length-sets a p s);
 }
 
-pub put-long : (a b s : List ℕ) (p q : ℕ) → Put a p s b q → length b ≡ length a
-put-long a b s p q x = ap length x.bytes ∙ length-sets a p s
+pub put_long : (a b s : List ℕ) (p q : ℕ) → Put a p s b q → length b ≡ length a
+put_long a b s p q x = ap length x.bytes ∙ length-sets a p s
 
 -- where there is no room
 pub put_full : (out s : List ℕ) (at : ℕ) → length out ≤ at → Put out at s out at
-put_full out s at h = record { bytes = sym (sets-out s out at h); place = omega arith }
+put_full out s at h = record { bytes = sym (sets_out s out at h); place = omega arith }
 
 -- ---- put_byte where there is room
 
@@ -49,12 +49,12 @@ put_one out at b h = record { bytes = refl; place = omega arith }
 
 -- ---- put: the one digit, and the last after the others
 
-pub put-digit : (n : ℕ) (out out' : List ℕ) (at r b : ℕ) → n < 10 → b ≡ 48 + n → Put out at (b ∷ []) out' r → Put out at (digitsOf n) out' r
-put-digit n out out' at r b h e x = rw (digits-small n h, ← e) x
+pub put_digit : (n : ℕ) (out out' : List ℕ) (at r b : ℕ) → n < 10 → b ≡ 48 + n → Put out at (b ∷ []) out' r → Put out at (digits_of n) out' r
+put_digit n out out' at r b h e x = rw (digits_small n h, ← e) x
 
-pub put-more : (n : ℕ) (out mid out' : List ℕ) (at end r b : ℕ) → 10 ≤ n → b ≡ 48 + n % 10 → Put out at (digitsOf (n / 10)) mid end
-    → Put mid end (b ∷ []) out' r → Put out at (digitsOf n) out' r
-put-more n out mid out' at end r b h e x y = rw (digits_more n h, ← e) (put_then out mid out' (digitsOf (n / 10)) (b ∷ []) at end r x y)
+pub put_more : (n : ℕ) (out mid out' : List ℕ) (at end r b : ℕ) → 10 ≤ n → b ≡ 48 + n % 10 → Put out at (digits_of (n / 10)) mid end
+    → Put mid end (b ∷ []) out' r → Put out at (digits_of n) out' r
+put_more n out mid out' at end r b h e x y = rw (digits_more n h, ← e) (put_then out mid out' (digits_of (n / 10)) (b ∷ []) at end r x y)
 
 -- where there is room, what is put at the front stands there whole, and what was behind it stays
 pub put_whole : (out s out' : List ℕ) (n : ℕ) → Put out 0 s out' n → length s ≤ length out

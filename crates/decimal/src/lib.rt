@@ -1,7 +1,7 @@
 // Numbers in decimal, read as a program's arguments are and put among the bytes that it prints.
 ghost use Rattle.std.specs.Prelude.{◌≡◌, [], ◌∷◌, ◌+◌, ◌<◌};
-ghost use Rattle.decimal.specs.Decimal.{decimalOf};
-ghost use Rattle.decimal.specs.Digits.{digitsOf};
+ghost use Rattle.decimal.specs.Decimal.{decimal_of};
+ghost use Rattle.decimal.specs.Digits.{digits_of};
 ghost use Rattle.decimal.specs.Put.{Put};
 
 #[derive(Drop)]
@@ -18,7 +18,7 @@ fn wide(b: u8) -> u64
 
 // The number that `text` says: one digit or more and nothing else, below 2^64.
 pub fn read(text: &[u8]) -> Decimal
-    ensures { result ≡ decimalOf text.now }
+    ensures { result ≡ decimal_of text.now }
 {
     if text.len() == 0 {
         return Decimal::NoNumber;
@@ -63,7 +63,7 @@ fn ascii(digit: u64) -> u8
 
 // The digits of n.
 pub fn put(out: &mut [u8], at: usize, n: u64) -> usize
-    ensures { Put out.old at (digitsOf n) out.new result }
+    ensures { Put out.old at (digits_of n) out.new result }
 {
     if n < 10 {
         return put_byte(out, at, ascii(n));

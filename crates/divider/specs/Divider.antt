@@ -3,5 +3,5 @@
 use Rattle.std.specs.Prelude.{ℕ, ◌-◌, ◌^◌, cond, ltb}
 
 -- the choices 1 to 7 divide by 1, 2, 4, .. 64; 0 and what lies above 7 name no divider, which is said by 0
-abbrev pub dividerOf : ℕ → ℕ
-dividerOf choice = cond (ltb choice 1) 0 (cond (ltb 7 choice) 0 (2 ^ (choice - 1)))
+abbrev pub divider_of : ℕ → ℕ
+divider_of choice = cond (ltb choice 1) 0 (cond (ltb 7 choice) 0 (2 ^ (choice - 1)))

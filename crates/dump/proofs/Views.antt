@@ -12,14 +12,14 @@ use lib.Dec.{eqb}
 use borrow.Author.Tests.{eq-eqb, ne_eqb}
 use Rattle.fold.specs.Turn.{applies}
 use Rattle.fold.specs.Run.{going}
-use Rattle.fold.proofs.Runs.{every-going}
+use Rattle.fold.proofs.Runs.{every_going}
 use Rattle.numbers.specs.Bytes.{byte, le_of}
 use Rattle.edition.specs.declared.Edition.{Edition}
-use Rattle.wire.specs.Decode.{bankOf, decodeOf}
+use Rattle.wire.specs.Decode.{bank_of, decode_of}
 use Rattle.records.specs.declared.Record.{Record}
 use Rattle.records.specs.declared.Record.TheVariants.{WriteSelect, WriteEncoder, WritePwm, WriteI2c, Answer, ReadSelect, ReadEncoder, ReadPwm, ReadI2c, Pins, Ticks}
 use Rattle.records.specs.declared.Decoded.TheVariants.{Names}
-use Rattle.wire.proofs.Formed.{Formed, formed, bank-formed}
+use Rattle.wire.proofs.Formed.{Formed, formed, bank_formed}
 use Rattle.banks.specs.declared.State.{State}
 use Rattle.banks.specs.State.{fresh}
 use Rattle.replay.specs.Replay.{played}
@@ -28,7 +28,7 @@ use Rattle.walk.proofs.Replaying.{by_turn}
 use Rattle.vcd.specs.declared.Step.{Step}
 use Rattle.vcd.specs.declared.Step.TheVariants.{Wait, Pins as Seen}
 use Rattle.vcd.specs.Dump.{Good}
-use Rattle.dump.specs.Dump.{seenOf}
+use Rattle.dump.specs.Dump.{seen_of}
 
 -- ---- where it lies
 
@@ -36,25 +36,25 @@ module _ (s : List ℕ) (at : ℕ) where
   byte_at : (i : ℕ) → i < 16 → byte (take 16 (drop at s)) i ≡ byte s (at + i)
   byte_at i h = get_or-take 16 (drop at s) i 0 h ∙ get_or-drop at s i 0
 
-  le-at : (n i : ℕ) → i + n ≤ 16 → le_of n (take 16 (drop at s)) i ≡ le_of n s (at + i)
+  le_at : (n i : ℕ) → i + n ≤ 16 → le_of n (take 16 (drop at s)) i ≡ le_of n s (at + i)
   unfolding le_of
-  le-at zero i h = refl
-  le-at (suc n) i h = rw (byte_at i (omega arith), le-at n (suc i) (omega arith), add-suc at i)
+  le_at zero i h = refl
+  le_at (suc n) i h = rw (byte_at i (omega arith), le_at n (suc i) (omega arith), add-suc at i)
 
   first : byte (take 16 (drop at s)) 0 ≡ byte s at
   first = byte_at 0 (omega arith) ∙ ap (byte s) (add-zero at)
 
-  pub pins-at : (b c v : ℕ) → byte s at ≡ 3 → b ≡ byte s (at + 4) → c ≡ byte s (at + 2) → v ≡ le_of 8 s (at + 8) → Seen (10 * b + c) v ≡ seenOf (take 16 (drop at s))
-  unfolding seenOf
-  pins-at b c v k p q r = rw (first, eq-eqb (byte s at) 3 k, byte_at 4 (omega arith), byte_at 2 (omega arith), le-at 8 8 (omega arith), ← p, ← q, ← r)
+  pub pins_at : (b c v : ℕ) → byte s at ≡ 3 → b ≡ byte s (at + 4) → c ≡ byte s (at + 2) → v ≡ le_of 8 s (at + 8) → Seen (10 * b + c) v ≡ seen_of (take 16 (drop at s))
+  unfolding seen_of
+  pins_at b c v k p q r = rw (first, eq-eqb (byte s at) 3 k, byte_at 4 (omega arith), byte_at 2 (omega arith), le_at 8 8 (omega arith), ← p, ← q, ← r)
 
-  pub ticks-at : (v : ℕ) → (byte s at ≡ 3 → ⊥) → byte s at ≡ 4 → v ≡ le_of 8 s (at + 8) → Wait v ≡ seenOf (take 16 (drop at s))
-  unfolding seenOf
-  ticks-at v n k r = rw (first, ne_eqb (byte s at) 3 n, eq-eqb (byte s at) 4 k, le-at 8 8 (omega arith), ← r)
+  pub ticks_at : (v : ℕ) → (byte s at ≡ 3 → ⊥) → byte s at ≡ 4 → v ≡ le_of 8 s (at + 8) → Wait v ≡ seen_of (take 16 (drop at s))
+  unfolding seen_of
+  ticks_at v n k r = rw (first, ne_eqb (byte s at) 3 n, eq-eqb (byte s at) 4 k, le_at 8 8 (omega arith), ← r)
 
-  pub none-at : (byte s at ≡ 3 → ⊥) → (byte s at ≡ 4 → ⊥) → Wait 0 ≡ seenOf (take 16 (drop at s))
-  unfolding seenOf
-  none-at n m = rw (first, ne_eqb (byte s at) 3 n, ne_eqb (byte s at) 4 m)
+  pub none_at : (byte s at ≡ 3 → ⊥) → (byte s at ≡ 4 → ⊥) → Wait 0 ≡ seen_of (take 16 (drop at s))
+  unfolding seen_of
+  none_at n m = rw (first, ne_eqb (byte s at) 3 n, ne_eqb (byte s at) 4 m)
 
 -- ---- what is decoded
 
@@ -63,42 +63,42 @@ GoodStep (Wait t) = t < 2 ^ 32
 GoodStep (Seen e v) = (e < 20) × (v < 4)
 
 module _ (o : Edition) (s : List ℕ) where
-  pub seen_pins : (i v : ℕ) → decodeOf o s ≡ Names (Pins i v) → seenOf s ≡ Seen (10 * bankOf s + i) v
-  unfolding seenOf
-  seen_pins i v e = let f = (formed o s (Pins i v) e).0 in rw (f.is-kind, f.is-channel) (ap (Seen (10 * bankOf s + i)) f.value)
+  pub seen_pins : (i v : ℕ) → decode_of o s ≡ Names (Pins i v) → seen_of s ≡ Seen (10 * bank_of s + i) v
+  unfolding seen_of
+  seen_pins i v e = let f = (formed o s (Pins i v) e).0 in rw (f.is_kind, f.is_channel) (ap (Seen (10 * bank_of s + i)) f.value)
 
-  pub seen-ticks : (t : ℕ) → decodeOf o s ≡ Names (Ticks t) → seenOf s ≡ Wait t
-  unfolding seenOf
-  seen-ticks t e = let f = (formed o s (Ticks t) e).0 in rw f.is-kind (ap Wait f.value)
+  pub seen_ticks : (t : ℕ) → decode_of o s ≡ Names (Ticks t) → seen_of s ≡ Wait t
+  unfolding seen_of
+  seen_ticks t e = let f = (formed o s (Ticks t) e).0 in rw f.is_kind (ap Wait f.value)
 
-  other : (k : ℕ) → byte s 0 ≡ k → eqb k 3 ≡ false → eqb k 4 ≡ false → GoodStep (seenOf s)
-  unfolding seenOf
+  other : (k : ℕ) → byte s 0 ≡ k → eqb k 3 ≡ false → eqb k 4 ≡ false → GoodStep (seen_of s)
+  unfolding seen_of
   other k e n m = rw (e, n, m) (omega arith)
 
-  good : (r : Record) → decodeOf o s ≡ Names r → Formed s r → GoodStep (seenOf s)
-  good (WriteSelect v) e f = other 1 f.0.is-kind refl refl
-  good (WriteEncoder i v) e f = other 1 f.0.is-kind refl refl
-  good (WritePwm i g v) e f = other 1 f.0.is-kind refl refl
-  good (WriteI2c g v) e f = other 1 f.0.is-kind refl refl
-  good (Answer v) e f = other 5 f.0.is-kind refl refl
-  good ReadSelect e f = other 2 f.is-kind refl refl
-  good (ReadEncoder i r) e f = other 2 f.0.is-kind refl refl
-  good (ReadPwm i r) e f = other 2 f.0.is-kind refl refl
-  good (ReadI2c r) e f = other 2 f.0.is-kind refl refl
-  good (Pins i v) e f = rw (seen_pins i v e) (omega (arith, f.1, bank-formed o s (Pins i v) e), f.2)
-  good (Ticks t) e f = rw (seen-ticks t e) f.1
+  good : (r : Record) → decode_of o s ≡ Names r → Formed s r → GoodStep (seen_of s)
+  good (WriteSelect v) e f = other 1 f.0.is_kind refl refl
+  good (WriteEncoder i v) e f = other 1 f.0.is_kind refl refl
+  good (WritePwm i g v) e f = other 1 f.0.is_kind refl refl
+  good (WriteI2c g v) e f = other 1 f.0.is_kind refl refl
+  good (Answer v) e f = other 5 f.0.is_kind refl refl
+  good ReadSelect e f = other 2 f.is_kind refl refl
+  good (ReadEncoder i r) e f = other 2 f.0.is_kind refl refl
+  good (ReadPwm i r) e f = other 2 f.0.is_kind refl refl
+  good (ReadI2c r) e f = other 2 f.0.is_kind refl refl
+  good (Pins i v) e f = rw (seen_pins i v e) (omega (arith, f.1, bank_formed o s (Pins i v) e), f.2)
+  good (Ticks t) e f = rw (seen_ticks t e) f.1
 
-  pub good-record : (b : State) → applies (turn_of o b s) ≡ true → GoodStep (seenOf s)
-  good-record b =
-      by_turn o b s (λ t. applies t ≡ true → GoodStep (seenOf s)) (λ n e h. absurd (false≢true h)) (λ r e k h. good r e (formed o s r e)) (λ r e k h. good r e (formed o s r e))
+  pub good_record : (b : State) → applies (turn_of o b s) ≡ true → GoodStep (seen_of s)
+  good_record b =
+      by_turn o b s (λ t. applies t ≡ true → GoodStep (seen_of s)) (λ n e h. absurd (false≢true h)) (λ r e k h. good r e (formed o s r e)) (λ r e k h. good r e (formed o s r e))
 
 -- the records of a run that goes to its end; 25 * 2^32 ns for each
 abbrev Soon : List Step → Type 0
 Soon ss = (now : ℕ) → now + 107374182400 * length ss < 2 ^ 48 → Good (2 ^ 48) now ss
 
-good-step : (s : Step) (ss : List Step) → GoodStep s → Soon ss → Soon (s ∷ ss)
-good-step (Wait t) ss g ih now h = ih (now + 25 * t) (omega arith)
-good-step (Seen e v) ss g ih now h = (g.0, g.1, ih now (omega arith))
+good_step : (s : Step) (ss : List Step) → GoodStep s → Soon ss → Soon (s ∷ ss)
+good_step (Wait t) ss g ih now h = ih (now + 25 * t) (omega arith)
+good_step (Seen e v) ss g ih now h = (g.0, g.1, ih now (omega arith))
 
-pub good-run : (o : Edition) (rs : List (List ℕ)) → (played o rs).course ≡ going → Soon (map seenOf rs)
-good-run o rs h = every-going (turn_of o) (λ b rs x. Soon (map seenOf rs)) (λ b now l. omega arith) (λ b r rs a ih. good-step (seenOf r) (map seenOf rs) (good-record o r b a) ih) fresh rs h
+pub good_run : (o : Edition) (rs : List (List ℕ)) → (played o rs).course ≡ going → Soon (map seen_of rs)
+good_run o rs h = every_going (turn_of o) (λ b rs x. Soon (map seen_of rs)) (λ b now l. omega arith) (λ b r rs a ih. good_step (seen_of r) (map seen_of rs) (good_record o r b a) ih) fresh rs h

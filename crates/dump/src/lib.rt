@@ -2,11 +2,11 @@
 ghost use Rattle.std.specs.Prelude.{◌≡◌, false, ◌+◌, ◌*◌, ◌<◌, ◌≤◌, length, take, drop};
 ghost use Rattle.decimal.specs.Put.{Put};
 ghost use Rattle.vcd.specs.Lines.{text_of};
-ghost use Rattle.vcd.specs.Dump.{start_of, bodyFrom};
-ghost use Rattle.made.specs.Made.{made_of, outputOf};
-ghost use Rattle.made.specs.How.{handedOf, handedIn};
-ghost use Rattle.dump.specs.Dump.{seenOf, dumpText};
-ghost use Rattle.dump.specs.How.{stepsIn, textIn, Ready};
+ghost use Rattle.vcd.specs.Dump.{start_of, body_from};
+ghost use Rattle.made.specs.Made.{made_of, output_of};
+ghost use Rattle.made.specs.How.{handed_of, handed_in};
+ghost use Rattle.dump.specs.Dump.{seen_of, dump_text};
+ghost use Rattle.dump.specs.How.{steps_in, text_in, Ready};
 
 use made::{Made, Source};
 use vcd::Step;
@@ -22,7 +22,7 @@ fn wide(b: u8) -> usize
 // What the record that starts at a place says about time and pins. The dump sees a record by this function alone.
 fn seen(log: &[u8], at: usize) -> Step
     requires { at + 16 ≤ length log.now }
-    ensures { result ≡ seenOf (take 16 (drop at log.now)) }
+    ensures { result ≡ seen_of (take 16 (drop at log.now)) }
 {
     if log[at] == 3 {
         return Step::Pins {
@@ -39,7 +39,7 @@ fn seen(log: &[u8], at: usize) -> Step
 // The encoders that have a pins record, of the n records from start on.
 fn present(log: &[u8], start: usize, n: usize) -> [u8; 20]
     requires { Ready log.now start n }
-    ensures { result ≡ start_of (stepsIn log.now start n) }
+    ensures { result ≡ start_of (steps_in log.now start n) }
 {
     let mut pins = [5u8; 20];
     let mut i: usize = 0;
@@ -62,8 +62,8 @@ fn present(log: &[u8], start: usize, n: usize) -> [u8; 20]
 // The changes of the n records from start on, behind the header.
 fn body(log: &[u8], start: usize, n: usize, unknown: [u8; 20], out: &mut [u8], from: usize) -> usize
     requires ready { Ready log.now start n }
-    requires unknown_value { unknown ≡ start_of (stepsIn log.now start n) }
-    ensures { Put out.old from (text_of (bodyFrom false 0 unknown (stepsIn log.now start n))) out.new result }
+    requires unknown_value { unknown ≡ start_of (steps_in log.now start n) }
+    ensures { Put out.old from (text_of (body_from false 0 unknown (steps_in log.now start n))) out.new result }
 {
     let mut pins = unknown;
     let mut time: u64 = 0;
@@ -94,7 +94,7 @@ fn body(log: &[u8], start: usize, n: usize, unknown: [u8; 20], out: &mut [u8], f
 
 fn write(log: &[u8], start: usize, n: usize, out: &mut [u8]) -> usize
     requires { Ready log.now start n }
-    ensures { Put out.old 0 (textIn log.now start n) out.new result }
+    ensures { Put out.old 0 (text_in log.now start n) out.new result }
 {
     let pins = present(log, start, n);
     let at = vcd_header::header(out, pins);
@@ -104,8 +104,8 @@ fn write(log: &[u8], start: usize, n: usize, out: &mut [u8]) -> usize
 // Where every dump has room it is written in place, else into a buffer of our own first, so that 6 writes nothing.
 fn write_all(log: &[u8], start: usize, n: usize, out: &mut [u8]) -> Made
     requires { Ready log.now start n }
-    ensures value { result ≡ handedOf (textIn log.now start n) (length out.old) }
-    ensures out_after { out.new ≡ handedIn (textIn log.now start n) out.old }
+    ensures value { result ≡ handed_of (text_in log.now start n) (length out.old) }
+    ensures out_after { out.new ≡ handed_in (text_in log.now start n) out.old }
 {
     if 25207 <= out.len() {
         let size = write(log, start, n, out);
@@ -121,8 +121,8 @@ fn write_all(log: &[u8], start: usize, n: usize, out: &mut [u8]) -> Made
 }
 
 pub fn dump(log: &[u8], out: &mut [u8]) -> Made
-    ensures value { result ≡ made_of dumpText log.now (length out.old) }
-    ensures out_after { out.new ≡ outputOf dumpText log.now out.old }
+    ensures value { result ≡ made_of dump_text log.now (length out.old) }
+    ensures out_after { out.new ≡ output_of dump_text log.now out.old }
 {
     match made::source_of(log) {
         Source::Refused { number, index } => Made {

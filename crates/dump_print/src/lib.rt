@@ -1,7 +1,7 @@
 // What `rvz dump` writes: a log's dump, for standard output, or its refusal, for standard error.
 ghost use Rattle.std.specs.Prelude.{◌≤◌, length};
 ghost use Rattle.io.specs.Counts.{IsPrefixLen};
-ghost use Rattle.dump.specs.Dump.{dumpText};
+ghost use Rattle.dump.specs.Dump.{dump_text};
 ghost use Rattle.printed.specs.Printed.{MadePrinted};
 
 use libc::STDIN_FILENO;
@@ -9,7 +9,7 @@ use printed::Printed;
 
 pub fn dump_log(text: &mut [u8], log: &[u8]) -> Printed
     requires { 25207 ≤ length text.old }
-    ensures { MadePrinted dumpText log.now text.new result }
+    ensures { MadePrinted dump_text log.now text.new result }
 {
     let d = dump::dump(log, text);
     printed::told(text, d.refused, d.index, d.size)

@@ -11,50 +11,50 @@ use Rattle.fold.specs.Output.{over}
 use Rattle.vcd.specs.Entries.{Entry}
 use Rattle.vcd.specs.Reader.{Reads}
 use Rattle.vcd.specs.How.{Told, entries, refusal, read_of}
-use Rattle.vcd.proofs.Readings.{reads-told, told-reads}
+use Rattle.vcd.proofs.Readings.{reads_told, told_reads}
 use Rattle.dump_read.specs.How.{bytes_of}
 use Rattle.dump_read.specs.Reading.{Answer, Settled}
 
 module _ (text out : List ℕ) where
   module _ (e : read_of text ≡ refusal) where
     none : (xs : List Entry) → Reads text xs → ⊥
-    none xs r = let f = reads-told text xs r in let z : ◌≡◌ {A = ℕ} 0 1 = cc in omega arith
+    none xs r = let f = reads_told text xs r in let z : ◌≡◌ {A = ℕ} 0 1 = cc in omega arith
 
     pub refusing : Answer text out 20 0 out
     refusing = record { read = λ xs r h. absurd (none xs r); cramped = λ xs r h. absurd (none xs r); other = λ n. (refl, refl, refl) }
 
   module _ (xs : List Entry) (e : read_of text ≡ entries xs) where
-    same-as : (ys : List Entry) → Reads text ys → xs ≡ ys
-    same-as ys r = let f = reads-told text ys r in cc
+    same_as : (ys : List Entry) → Reads text ys → xs ≡ ys
+    same_as ys r = let f = reads_told text ys r in cc
 
     pub too_small : length out < 16 * length xs → Answer text out 6 0 out
     too_small h = record {
-      read = λ ys r l. absurd (omega (arith, ap length (same-as ys r)));
+      read = λ ys r l. absurd (omega (arith, ap length (same_as ys r)));
       cramped = λ ys r l. (refl, refl, refl);
-      other = λ n. absurd (n xs (told-reads text xs e));
+      other = λ n. absurd (n xs (told_reads text xs e));
     }
 
-    pub reading-all : (count : ℕ) (out' : List ℕ) → 16 * length xs ≤ length out → count ≡ length xs → out' ≡ over (bytes_of xs) out → Answer text out 0 count out'
-    reading-all count out' h c o = record {
-      read = λ ys r l. (refl, c ∙ ap length (same-as ys r), o ∙ ap (λ (zs : List Entry). over (bytes_of zs) out) (same-as ys r));
-      cramped = λ ys r l. absurd (omega (arith, ap length (same-as ys r)));
-      other = λ n. absurd (n xs (told-reads text xs e));
+    pub reading_all : (count : ℕ) (out' : List ℕ) → 16 * length xs ≤ length out → count ≡ length xs → out' ≡ over (bytes_of xs) out → Answer text out 0 count out'
+    reading_all count out' h c o = record {
+      read = λ ys r l. (refl, c ∙ ap length (same_as ys r), o ∙ ap (λ (zs : List Entry). over (bytes_of zs) out) (same_as ys r));
+      cramped = λ ys r l. absurd (omega (arith, ap length (same_as ys r)));
+      other = λ n. absurd (n xs (told_reads text xs e));
     }
 
   module _ (o p : List ℕ) (j k m n : ℕ) (a : Answer text out j m o) (b : Answer text out k n p) where
     agree : (x y : ℕ) (q : List ℕ) → (j ≡ x) × (m ≡ y) × (o ≡ q) → (k ≡ x) × (n ≡ y) × (p ≡ q) → (j ≡ k) × (m ≡ n) × (o ≡ p)
     agree x y q f g = (f.0 ∙ sym g.0, f.1 ∙ sym g.1, f.2 ∙ sym g.2)
 
-    by-told : (t : Told) → read_of text ≡ t → (j ≡ k) × (m ≡ n) × (o ≡ p)
-    by-told refusal e = agree 20 0 out (a.other (none e)) (b.other (none e))
-    by-told (entries xs) e = by-room (leb (16 * length xs) (length out)) refl
+    by_told : (t : Told) → read_of text ≡ t → (j ≡ k) × (m ≡ n) × (o ≡ p)
+    by_told refusal e = agree 20 0 out (a.other (none e)) (b.other (none e))
+    by_told (entries xs) e = by_room (leb (16 * length xs) (length out)) refl
       where
         r : Reads text xs
-        r = told-reads text xs e
+        r = told_reads text xs e
 
-        by-room : (t : Bool) → leb (16 * length xs) (length out) ≡ t → (j ≡ k) × (m ≡ n) × (o ≡ p)
-        by-room true q = let h = leb-true (16 * length xs) (length out) q in agree 0 (length xs) (over (bytes_of xs) out) (a.read xs r h) (b.read xs r h)
-        by-room false q = let h = leb-false (16 * length xs) (length out) q in agree 6 0 out (a.cramped xs r h) (b.cramped xs r h)
+        by_room : (t : Bool) → leb (16 * length xs) (length out) ≡ t → (j ≡ k) × (m ≡ n) × (o ≡ p)
+        by_room true q = let h = leb-true (16 * length xs) (length out) q in agree 0 (length xs) (over (bytes_of xs) out) (a.read xs r h) (b.read xs r h)
+        by_room false q = let h = leb-false (16 * length xs) (length out) q in agree 6 0 out (a.cramped xs r h) (b.cramped xs r h)
 
 pub settled : Settled
-settled text out o p j k m n a b = by-told text out o p j k m n a b (read_of text) refl
+settled text out o p j k m n a b = by_told text out o p j k m n a b (read_of text) refl

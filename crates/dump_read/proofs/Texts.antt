@@ -15,12 +15,12 @@ use Rattle.vcd.specs.declared.Line.{Line}
 use Rattle.vcd.specs.declared.Line.TheVariants.{Other}
 use Rattle.vcd.specs.declared.Reader.{Reader}
 use Rattle.vcd.specs.Entries.{Entry}
-use Rattle.vcd.specs.How.{lines_from, lines_of, refused, turn_of, opening, standing, toldBefore, toldFrom, whole, entries, refusal, toldBy, read_of}
+use Rattle.vcd.specs.How.{lines_from, lines_of, refused, turn_of, opening, standing, told_before, told_from, whole, entries, refusal, told_by, read_of}
 use Rattle.dump_read.specs.declared.Scan.{Scan}
 use Rattle.dump_read.specs.Reading.{Answer}
-use Rattle.dump_read.specs.How.{bytes_of, Stored, lineIn}
-use Rattle.dump_read.proofs.Stores.{bytes-long, stored-none, stored-then, stored-long}
-use Rattle.dump_read.proofs.Answers.{refusing, too_small, reading-all}
+use Rattle.dump_read.specs.How.{bytes_of, Stored, line_in}
+use Rattle.dump_read.proofs.Stores.{bytes_long, stored_none, stored_then, stored_long}
+use Rattle.dump_read.proofs.Answers.{refusing, too_small, reading_all}
 
 -- ---- the line from start to i is under way
 
@@ -38,13 +38,13 @@ module _ (text : List ℕ) (start i : ℕ) (o : start ≤ i) where
         let f : start + (i - start) ≡ i = omega arith in
         sym (rw (e, take-suc (drop start text) (i - start) 0 (omega (arith, length-drop start text)), get_or-drop start text (i - start) 0, f))
 
-    rest-on : (get_or text i 0 ≡ 10 → ⊥) → rest_of text start i ≡ rest_of text start (i + 1)
+    rest_on : (get_or text i 0 ≡ 10 → ⊥) → rest_of text start i ≡ rest_of text start (i + 1)
     unfolding lines_from
-    rest-on n = rw (here, ne_eqb (get_or text i 0) 10 n, longer)
+    rest_on n = rw (here, ne_eqb (get_or text i 0) 10 n, longer)
 
-    rest-cut : get_or text i 0 ≡ 10 → rest_of text start i ≡ lineIn text start i ∷ rest_of text (i + 1) (i + 1)
+    rest_cut : get_or text i 0 ≡ 10 → rest_of text start i ≡ line_in text start i ∷ rest_of text (i + 1) (i + 1)
     unfolding lines_from
-    rest-cut e = let z : i + 1 - (i + 1) ≡ 0 = omega arith in rw (here, eq-eqb (get_or text i 0) 10 e, z)
+    rest_cut e = let z : i + 1 - (i + 1) ≡ 0 = omega arith in rw (here, eq-eqb (get_or text i 0) 10 e, z)
 
   -- the end: nothing is left, or something that is no line
   rest_end : length text ≤ i → i ≤ length text → rest_of text start i ≡ cond (eqb start i) [] (Other ∷ [])
@@ -67,7 +67,7 @@ pub record Reading (text out₀ out : List ℕ) (s : Scan) (start i : ℕ) : Typ
   pub order : start ≤ i
   pub within : i ≤ length text
   pub turned : foldl turn_of opening (lines_of text) ≡ foldl turn_of s.reader (rest_of text start i)
-  pub told : toldFrom opening (lines_of text) ≡ so_far ++ toldFrom s.reader (rest_of text start i)
+  pub told : told_from opening (lines_of text) ≡ so_far ++ told_from s.reader (rest_of text start i)
   pub wrote : Stored out₀ 0 so_far out s.count
   pub near : s.count ≤ 20 * i
 
@@ -77,109 +77,109 @@ reading text out r e = record {
   order = omega arith;
   within = omega arith;
   turned = ap (λ (u : Reader). foldl turn_of u (lines_of text)) (sym e);
-  told = ap (λ (u : Reader). toldFrom u (lines_of text)) (sym e);
-  wrote = stored-none out 0;
+  told = ap (λ (u : Reader). told_from u (lines_of text)) (sym e);
+  wrote = stored_none out 0;
   near = omega arith;
 }
 
 module _ (text out₀ out : List ℕ) (s : Scan) (start i : ℕ) (g : Reading text out₀ out s start i) where
   pub reads_on : i < length text → (get_or text i 0 ≡ 10 → ⊥) → Reading text out₀ out s start (i + 1)
   reads_on h n =
-      let e = rest-on text start i g.order h n in
+      let e = rest_on text start i g.order h n in
       record {
         so_far = g.so_far;
         order = omega (arith, g.order);
         within = omega arith;
         turned = g.turned ∙ ap (foldl turn_of s.reader) e;
-        told = g.told ∙ ap (λ (ls : List Line). g.so_far ++ toldFrom s.reader ls) e;
+        told = g.told ∙ ap (λ (ls : List Line). g.so_far ++ told_from s.reader ls) e;
         wrote = g.wrote;
         near = omega (arith, g.near);
       }
 
-  pub reads-line : (q : Scan) (out' : List ℕ) → i < length text → get_or text i 0 ≡ 10 → q.reader ≡ turn_of s.reader (lineIn text start i)
-      → Stored out s.count (toldBefore s.reader (lineIn text start i)) out' q.count → q.count ≤ s.count + 20 → Reading text out₀ out' q (i + 1) (i + 1)
-  unfolding toldFrom
-  reads-line q out' h e f x k =
-      let c = rest-cut text start i g.order h e in
-      let l = lineIn text start i in
+  pub reads_line : (q : Scan) (out' : List ℕ) → i < length text → get_or text i 0 ≡ 10 → q.reader ≡ turn_of s.reader (line_in text start i)
+      → Stored out s.count (told_before s.reader (line_in text start i)) out' q.count → q.count ≤ s.count + 20 → Reading text out₀ out' q (i + 1) (i + 1)
+  unfolding told_from
+  reads_line q out' h e f x k =
+      let c = rest_cut text start i g.order h e in
+      let l = line_in text start i in
       let rest = rest_of text (i + 1) (i + 1) in
       record {
-        so_far = g.so_far ++ toldBefore s.reader l;
+        so_far = g.so_far ++ told_before s.reader l;
         order = omega arith;
         within = omega arith;
         turned = g.turned ∙ ap (foldl turn_of s.reader) c ∙ ap (λ (u : Reader). foldl turn_of u rest) (sym f);
         told =
-            g.told ∙ ap (λ (ls : List Line). g.so_far ++ toldFrom s.reader ls) c
-            ∙ sym (append_assoc g.so_far (toldBefore s.reader l) (toldFrom (turn_of s.reader l) rest))
-            ∙ ap (λ (u : Reader). g.so_far ++ toldBefore s.reader l ++ toldFrom u rest) (sym f);
-        wrote = stored-then out₀ out out' g.so_far (toldBefore s.reader l) 0 s.count q.count g.wrote x;
+            g.told ∙ ap (λ (ls : List Line). g.so_far ++ told_from s.reader ls) c
+            ∙ sym (append_assoc g.so_far (told_before s.reader l) (told_from (turn_of s.reader l) rest))
+            ∙ ap (λ (u : Reader). g.so_far ++ told_before s.reader l ++ told_from u rest) (sym f);
+        wrote = stored_then out₀ out out' g.so_far (told_before s.reader l) 0 s.count q.count g.wrote x;
         near = omega (arith, g.near);
       }
 
   module _ (end : length text ≤ i) where
-    last-lines : rest_of text start i ≡ cond (eqb start i) [] (Other ∷ [])
-    last-lines = rest_end text start i g.order end g.within
+    last_lines : rest_of text start i ≡ cond (eqb start i) [] (Other ∷ [])
+    last_lines = rest_end text start i g.order end g.within
 
     last_turn : (t : Bool) → foldl turn_of s.reader (cond t [] (Other ∷ [])) ≡ cond t s.reader (refused s.reader)
     unfolding turn_of
     last_turn true = refl
     last_turn false = refl
 
-    last-told : (t : Bool) → toldFrom s.reader (cond t [] (Other ∷ [])) ≡ standing s.reader
-    unfolding toldFrom toldBefore turn_of
-    last-told true = refl
-    last-told false = refl
+    last_told : (t : Bool) → told_from s.reader (cond t [] (Other ∷ [])) ≡ standing s.reader
+    unfolding told_from told_before turn_of
+    last_told true = refl
+    last_told false = refl
 
-    pub read-turned : (q : Reader) → q ≡ cond (eqb start i) s.reader (refused s.reader) → q ≡ foldl turn_of opening (lines_of text)
-    read-turned q e = e ∙ sym (g.turned ∙ ap (foldl turn_of s.reader) last-lines ∙ last_turn (eqb start i))
+    pub read_turned : (q : Reader) → q ≡ cond (eqb start i) s.reader (refused s.reader) → q ≡ foldl turn_of opening (lines_of text)
+    read_turned q e = e ∙ sym (g.turned ∙ ap (foldl turn_of s.reader) last_lines ∙ last_turn (eqb start i))
 
     module _ (out' : List ℕ) (count : ℕ) (x : Stored out s.count (standing s.reader) out' count) where
-      pub read_told : Stored out₀ 0 (toldFrom opening (lines_of text)) out' count
+      pub read_told : Stored out₀ 0 (told_from opening (lines_of text)) out' count
       read_told =
           subst (λ (xs : List Entry). Stored out₀ 0 xs out' count)
-          (sym (g.told ∙ ap (λ (ls : List Line). g.so_far ++ toldFrom s.reader ls) last-lines ∙ ap (λ (xs : List Entry). g.so_far ++ xs) (last-told (eqb start i))))
-          (stored-then out₀ out out' g.so_far (standing s.reader) 0 s.count count g.wrote x)
+          (sym (g.told ∙ ap (λ (ls : List Line). g.so_far ++ told_from s.reader ls) last_lines ∙ ap (λ (xs : List Entry). g.so_far ++ xs) (last_told (eqb start i))))
+          (stored_then out₀ out out' g.so_far (standing s.reader) 0 s.count count g.wrote x)
 
-      pub read-long : length out' ≡ length out₀
-      read-long = stored-long out₀ out' (toldFrom opening (lines_of text)) 0 count read_told
+      pub read_long : length out' ≡ length out₀
+      read_long = stored_long out₀ out' (told_from opening (lines_of text)) 0 count read_told
 
 -- ---- the whole
 
 module _ (text out : List ℕ) where
-  pub long-answer : 25207 < length text → Answer text out 20 0 out
+  pub long_answer : 25207 < length text → Answer text out 20 0 out
   unfolding read_of
-  long-answer h = refusing text out (rw (lt-ltb 25207 (length text) h))
+  long_answer h = refusing text out (rw (lt-ltb 25207 (length text) h))
 
   module _ (fits : length text ≤ 25207) (s : Scan) (is : s.reader ≡ foldl turn_of opening (lines_of text)) (t : Bool) (w : t ≡ whole s.reader) where
     abbrev xs : List Entry
-    xs = toldFrom opening (lines_of text)
+    xs = told_from opening (lines_of text)
 
-    as-told : read_of text ≡ cond t (entries xs) refusal
-    unfolding read_of toldBy
-    as-told = rw (le-ltb 25207 (length text) fits) (ap (λ (b : Bool). cond b (entries xs) refusal) (ap whole (sym is) ∙ sym w))
+    as_told : read_of text ≡ cond t (entries xs) refusal
+    unfolding read_of told_by
+    as_told = rw (le-ltb 25207 (length text) fits) (ap (λ (b : Bool). cond b (entries xs) refusal) (ap whole (sym is) ∙ sym w))
 
-    pub bad-answer : not t ≡ true → Answer text out 20 0 out
-    bad-answer q = refusing text out (as-told ∙ ap (λ (b : Bool). cond b (entries xs) refusal) (not-true t q))
+    pub bad_answer : not t ≡ true → Answer text out 20 0 out
+    bad_answer q = refusing text out (as_told ∙ ap (λ (b : Bool). cond b (entries xs) refusal) (not-true t q))
 
     module _ (yes : not t ≡ false) (none none' : List ℕ) (y : Stored none 0 xs none' s.count) where
       tells : read_of text ≡ entries xs
-      tells = as-told ∙ ap (λ (b : Bool). cond b (entries xs) refusal) (not-false t yes)
+      tells = as_told ∙ ap (λ (b : Bool). cond b (entries xs) refusal) (not-false t yes)
 
       counted : s.count ≡ length xs
       counted = y.number ∙ zero-add (length xs)
 
-      pub small-answer : length out / 16 < s.count → Answer text out 6 0 out
-      small-answer h = too_small text out xs tells (omega (arith, counted))
+      pub small_answer : length out / 16 < s.count → Answer text out 6 0 out
+      small_answer h = too_small text out xs tells (omega (arith, counted))
 
       module _ (h : s.count ≤ length out / 16) (out' : List ℕ) (count : ℕ) (z : Stored out 0 xs out' count) where
         enough : 16 * length xs ≤ length out
         enough = omega (arith, counted)
 
-        over-front : out' ≡ over (bytes_of xs) out
+        over_front : out' ≡ over (bytes_of xs) out
         unfolding over
-        over-front =
-            z.bytes ∙ sets-eq (bytes_of xs) out 0 (omega (arith, bytes-long xs, enough))
+        over_front =
+            z.bytes ∙ sets-eq (bytes_of xs) out 0 (omega (arith, bytes_long xs, enough))
             ∙ ap (λ (k : ℕ). bytes_of xs ++ drop k out) (zero-add (length (bytes_of xs)))
 
-        pub whole-answer : Answer text out 0 count out'
-        whole-answer = reading-all text out xs tells count out' enough (z.number ∙ zero-add (length xs)) over-front
+        pub whole_answer : Answer text out 0 count out'
+        whole_answer = reading_all text out xs tells count out' enough (z.number ∙ zero-add (length xs)) over_front

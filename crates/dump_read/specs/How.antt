@@ -5,14 +5,14 @@ use mathlib.Core.List.{List, map, flatten}
 use Rattle.std.proofs.lemmas.List.Edits.{sets}
 use Rattle.vcd.specs.declared.Line.{Line}
 use Rattle.vcd.specs.How.{line_of}
-use Rattle.vcd.specs.Entries.{Entry, entryBytes}
+use Rattle.vcd.specs.Entries.{Entry, entry_bytes}
 
 abbrev pub bytes_of : List Entry → List ℕ
-bytes_of xs = flatten (map entryBytes xs)
+bytes_of xs = flatten (map entry_bytes xs)
 
 pub record Stored (out : List ℕ) (count : ℕ) (xs : List Entry) (out' : List ℕ) (count' : ℕ) : Type 0 where
   pub bytes : out' ≡ sets out (16 * count) (bytes_of xs)
   pub number : count' ≡ count + length xs
 
-abbrev pub lineIn : List ℕ → ℕ → ℕ → Line
-lineIn text start end = line_of (take (end - start) (drop start text))
+abbrev pub line_in : List ℕ → ℕ → ℕ → Line
+line_in text start end = line_of (take (end - start) (drop start text))

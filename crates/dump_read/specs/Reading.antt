@@ -2,12 +2,12 @@
 use Rattle.std.specs.Prelude.{◌≡◌, ℕ, ◌*◌, ◌≤◌, ◌<◌, length}
 use mathlib.Core.List.{List, map, flatten}
 use Rattle.fold.specs.Output.{over}
-use Rattle.vcd.specs.Entries.{Entry, entryBytes}
+use Rattle.vcd.specs.Entries.{Entry, entry_bytes}
 use Rattle.vcd.specs.Reader.{Reads}
 
 pub record Answer (text out : List ℕ) (refused count : ℕ) (out' : List ℕ) : Type 0 where
   -- "bits 8 up: how many entries; 16 bytes each"
-  pub read : (xs : List Entry) → Reads text xs → 16 * length xs ≤ length out → (refused ≡ 0) × (count ≡ length xs) × (out' ≡ over (flatten (map entryBytes xs)) out)
+  pub read : (xs : List Entry) → Reads text xs → 16 * length xs ≤ length out → (refused ≡ 0) × (count ≡ length xs) × (out' ≡ over (flatten (map entry_bytes xs)) out)
   -- "6 if the entries do not fit; nothing is written"
   pub cramped : (xs : List Entry) → Reads text xs → length out < 16 * length xs → (refused ≡ 6) × (count ≡ 0) × (out' ≡ out)
   -- "Any other text is refusal 20"

@@ -1,11 +1,11 @@
 // Reads a dump back, and no other text: the pins after all changes at each time at which something changed.
 ghost use Rattle.std.specs.Prelude.{◌≡◌, ◌+◌, ◌<◌, ◌≤◌, length};
 ghost use mathlib.Core.List.{[], ◌∷◌, foldl};
-ghost use Rattle.vcd.specs.Entries.{entries_at, entryBytes};
-ghost use Rattle.vcd.specs.How.{lines_of, turn_of, opening, standing, toldBefore, toldFrom};
+ghost use Rattle.vcd.specs.Entries.{entries_at, entry_bytes};
+ghost use Rattle.vcd.specs.How.{lines_of, turn_of, opening, standing, told_before, told_from};
 ghost use Rattle.vcd_read.specs.Bounds.{Bounded};
 ghost use Rattle.dump_read.specs.Reading.{Answer};
-ghost use Rattle.dump_read.specs.How.{Stored, lineIn};
+ghost use Rattle.dump_read.specs.How.{Stored, line_in};
 
 use vcd::{Line, Reader};
 
@@ -27,7 +27,7 @@ pub struct Scan {
 
 fn entry(time: u64, e: usize, p: u8) -> [u8; 16]
     requires { e < 20 }
-    ensures { result ≡ entryBytes (record { time = time; encoder = e; pins = p }) }
+    ensures { result ≡ entry_bytes (record { time = time; encoder = e; pins = p }) }
 {
     let mut x = [0u8; 16];
     numbers::put64(&mut x, 0, time);
@@ -69,7 +69,7 @@ fn put_standing(r: Reader, out: &mut [u8], count: usize) -> usize
 
 fn put_before(r: Reader, l: Line, out: &mut [u8], count: usize) -> usize
     requires { count < 2147483648 }
-    ensures stored { Stored out.old count (toldBefore r l) out.new result }
+    ensures stored { Stored out.old count (told_before r l) out.new result }
     ensures upper_bound { result ≤ count + 20 }
 {
     match l {
@@ -86,7 +86,7 @@ fn put_before(r: Reader, l: Line, out: &mut [u8], count: usize) -> usize
 
 fn line_in(text: &[u8], start: usize, end: usize) -> Line
     requires { (start ≤ end) × (end ≤ length text.now) }
-    ensures value { result ≡ lineIn text.now start end }
+    ensures value { result ≡ line_in text.now start end }
     ensures bounded { Bounded result }
 {
     vcd_read::read_line(&text[start..end])
@@ -96,8 +96,8 @@ fn line_in(text: &[u8], start: usize, end: usize) -> Line
 fn take_line(s: Scan, text: &[u8], start: usize, end: usize, out: &mut [u8]) -> Scan
     requires start_le_end { (start ≤ end) × (end ≤ length text.now) }
     requires count_bound { s.count < 2147483648 }
-    ensures reader_value { result.reader ≡ turn_of s.reader (lineIn text.now start end) }
-    ensures stored { Stored out.old s.count (toldBefore s.reader (lineIn text.now start end)) out.new result.count }
+    ensures reader_value { result.reader ≡ turn_of s.reader (line_in text.now start end) }
+    ensures stored { Stored out.old s.count (told_before s.reader (line_in text.now start end)) out.new result.count }
     ensures count_bound_2 { result.count ≤ s.count + 20 }
 {
     let r = s.reader;
@@ -113,7 +113,7 @@ fn take_line(s: Scan, text: &[u8], start: usize, end: usize, out: &mut [u8]) -> 
 fn read_text(text: &[u8], out: &mut [u8]) -> Scan
     requires { length text.now ≤ 25207 }
     ensures reader_value { result.reader ≡ foldl turn_of opening (lines_of text.now) }
-    ensures stored { Stored out.old 0 (toldFrom opening (lines_of text.now)) out.new result.count }
+    ensures stored { Stored out.old 0 (told_from opening (lines_of text.now)) out.new result.count }
     ensures count_bound { result.count ≤ 504160 }
 {
     let r = vcd_turn::opening();

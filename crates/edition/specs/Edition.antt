@@ -11,5 +11,5 @@ known number = leb 1 number && leb number 4
 -- record is the bank .. Edition 1 still demands zero"; "In edition 2 a kind 5 record .. tells how the slave answers"; "Edition 3 is edition 2 with
 -- one change: writing an encoder CNFG with MODE 1 is refusal 18"; "Edition 4 logs are for" myRIO boxes,
 -- whose "Records .., counting, ticking and I2C follow edition 2"
-abbrev pub editionOf : ℕ → Edition
-editionOf number = record { runs = ltb 1 number; banks = ltb 1 number; answers = ltb 1 number; quadrature = eqb number 3; port = eqb number 4 }
+abbrev pub edition_of : ℕ → Edition
+edition_of number = record { runs = ltb 1 number; banks = ltb 1 number; answers = ltb 1 number; quadrature = eqb number 3; port = eqb number 4 }

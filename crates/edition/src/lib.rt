@@ -1,6 +1,6 @@
 // The editions of the log's format: what each of them turns on.
 ghost use Rattle.std.specs.Prelude.{◌≡◌};
-ghost use Rattle.edition.specs.Edition.{known, editionOf};
+ghost use Rattle.edition.specs.Edition.{known, edition_of};
 
 #[derive(Drop)]
 pub struct Edition {
@@ -24,7 +24,7 @@ impl Edition {
     }
 
     pub fn of(number: u64) -> Edition
-        ensures { result ≡ editionOf number }
+        ensures { result ≡ edition_of number }
     {
         Edition {
             runs: number > 1,

@@ -9,25 +9,25 @@ use lib.Dec.{eqb}
 use borrow.Author.Tests.{eq-eqb, ne_eqb, eqb-true, eqb-false}
 use lib.IntN.{ℤ, pos, suc_ℤ, ◌+ℤ◌, +ℤ-suc_ℤ, +ℤ_idr}
 use Rattle.encoder.specs.declared.Encoder.{Encoder}
-use Rattle.encoder.specs.Encoder.{rst, onPins, onCnfg}
+use Rattle.encoder.specs.Encoder.{rst, on_pins, on_cnfg}
 use Rattle.encoder.specs.Facts.{Encoders, played}
 use Rattle.encoder_count.specs.Count.{pattern, wrap}
-use Rattle.encoder_count.proofs.Wrap.{pattern_lt, pattern-suc, pattern-wrap}
-use Rattle.encoder_stat.proofs.Marks.{passesUnsigned, passesSigned}
-use Rattle.encoder.proofs.Counting.{still, pins-cnfg}
+use Rattle.encoder_count.proofs.Wrap.{pattern_lt, pattern_suc, pattern_wrap}
+use Rattle.encoder_stat.proofs.Marks.{passes_unsigned, passes_signed}
+use Rattle.encoder.proofs.Counting.{still, pins_cnfg}
 
 -- a count of 0 stays while RST is 1
 reset : (vs : List ℕ) (e : Encoder) → rst e.cnfg ≡ true → e.count ≡ pos 0 → ((played vs e).count ≡ pos 0) × ((played vs e).stat ≡ e.stat)
 reset [] e one zero = (zero, refl)
 reset (v ∷ vs) e one zero =
     let s = still v e (ap (λ (b : Bool). not e.seen || b) one ∙ or-true (not e.seen)) in
-    let t = reset vs (onPins v e) (ap rst (pins-cnfg v e) ∙ one) (s.0 ∙ zero) in
+    let t = reset vs (on_pins v e) (ap rst (pins_cnfg v e) ∙ one) (s.0 ∙ zero) in
     (t.0, t.1 ∙ s.1)
 
 pub encoders : Encoders
 encoders = record {
-  first-pins = λ v e unseen. still v e (ap (λ (b : Bool). not b || rst e.cnfg) unseen);
-  held = λ v e one vs. reset vs (onCnfg v e) one (ap (λ (b : Bool). cond b (pos 0) e.count) one);
+  first_pins = λ v e unseen. still v e (ap (λ (b : Bool). not b || rst e.cnfg) unseen);
+  held = λ v e one vs. reset vs (on_cnfg v e) one (ap (λ (b : Bool). cond b (pos 0) e.count) one);
 }
 
 -- ---- a step up and the step back down from there pass the same border or none
@@ -43,7 +43,7 @@ border p q h e = (same q 0 p 4294967295 (λ x. omega arith) (λ x. omega arith),
         by true x = eq-eqb a b (g (eqb-true c d x))
         by false x = ne_eqb a b (λ y. eqb-false c d x (f y))
 
-same-border : (n : ℤ) → (passesUnsigned true (pattern (wrap (n +ℤ pos 1))) ≡ passesUnsigned false (pattern n))
-    × (passesSigned true (pattern (wrap (n +ℤ pos 1))) ≡ passesSigned false (pattern n))
-same-border n =
-    border (pattern n) _ (pattern_lt n) (pattern-wrap (n +ℤ pos 1) ∙ ap pattern (+ℤ-suc_ℤ n (pos 0) ∙ ap suc_ℤ (+ℤ_idr n)) ∙ pattern-suc n)
+same_border : (n : ℤ) → (passes_unsigned true (pattern (wrap (n +ℤ pos 1))) ≡ passes_unsigned false (pattern n))
+    × (passes_signed true (pattern (wrap (n +ℤ pos 1))) ≡ passes_signed false (pattern n))
+same_border n =
+    border (pattern n) _ (pattern_lt n) (pattern_wrap (n +ℤ pos 1) ∙ ap pattern (+ℤ-suc_ℤ n (pos 0) ∙ ap suc_ℤ (+ℤ_idr n)) ∙ pattern_suc n)

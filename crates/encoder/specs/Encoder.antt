@@ -4,21 +4,21 @@ use Rattle.std.specs.Prelude.{ℕ, zero, suc, Bool, true, false, not, cond, ◌&
 use Rattle.bits.specs.Bits.{bit, rises, changes}
 use Rattle.encoder_count.specs.Count.{pattern, wrap}
 pub use Rattle.encoder_pins.specs.Pins.{en, rst, mode, place, places}
-unfoldable pub use Rattle.encoder_stat.specs.Stat.{statOf}
+unfoldable pub use Rattle.encoder_stat.specs.Stat.{stat_of}
 pub use Rattle.encoder_stat.specs.Stat.{cleared, marked, erred}
 use Rattle.encoder.specs.declared.Encoder.{Encoder}
 
 -- ---- a write to CNFG
 
 -- "RST 1 sets the count to 0 .., and touches no flag. A change of EN or MODE .. makes the pins unseen"
-abbrev pub onCnfg : ℕ → Encoder → Encoder
-onCnfg v e = let stat = cleared (rises (bit 3 e.cnfg) (bit 3 v)) (rises (bit 4 e.cnfg) (bit 4 v)) e.stat in
+abbrev pub on_cnfg : ℕ → Encoder → Encoder
+on_cnfg v e = let stat = cleared (rises (bit 3 e.cnfg) (bit 3 v)) (rises (bit 4 e.cnfg) (bit 4 v)) e.stat in
     let seen = e.seen && not (changes (en e.cnfg) (en v) || changes (mode e.cnfg) (mode v)) in
     record { count = cond (rst v) (pos 0) e.count; cnfg = v; stat = stat; pins = e.pins; seen = seen }
 
 -- a write to SELECT, with whether the encoder was routed before it and is now: "being newly routed, makes the pins unseen"
-abbrev pub onSelect : Bool → Bool → Encoder → Encoder
-onSelect was now e = record { count = e.count; cnfg = e.cnfg; stat = e.stat; pins = e.pins; seen = e.seen && not (rises was now) }
+abbrev pub on_select : Bool → Bool → Encoder → Encoder
+on_select was now e = record { count = e.count; cnfg = e.cnfg; stat = e.stat; pins = e.pins; seen = e.seen && not (rises was now) }
 
 -- ---- pins that are stored, with the count and STAT that they leave
 
@@ -51,19 +51,19 @@ clocked v e = cond (rises (bit 0 e.pins) (bit 0 v)) (counted (bit 1 v) v e) (kep
 
 -- ---- pins: "Pins with EN 0 change nothing. Otherwise they are stored; if they were unseen, or RST is 1, that is all"
 
-abbrev pub onPins : ℕ → Encoder → Encoder
-onPins v e = cond (not (en e.cnfg)) e
+abbrev pub on_pins : ℕ → Encoder → Encoder
+on_pins v e = cond (not (en e.cnfg)) e
     (cond (not e.seen || rst e.cnfg) (kept v e)
     (cond (mode e.cnfg) (clocked v e) (quadrature (places e.pins v) v e)))
 
 -- "An encoder counts in quadrature while it is routed with EN 1, RST 0 and MODE 0"
-abbrev pub countsInQuadrature : Bool → ℕ → Bool
-countsInQuadrature routed cnfg = routed && (en cnfg && (not (rst cnfg) && not (mode cnfg)))
+abbrev pub counts_in_quadrature : Bool → ℕ → Bool
+counts_in_quadrature routed cnfg = routed && (en cnfg && (not (rst cnfg) && not (mode cnfg)))
 
 -- ---- what is read: "0 CNFG, 1 STAT, 2 CNTR"; "CNTR reads its bit pattern"
 
-abbrev pub registerOf : ℕ → Encoder → ℕ
-registerOf register e = cond (eqb register 0) e.cnfg (cond (eqb register 1) e.stat (pattern e.count))
+abbrev pub register_of : ℕ → Encoder → ℕ
+register_of register e = cond (eqb register 0) e.cnfg (cond (eqb register 1) e.stat (pattern e.count))
 
 -- "Fresh state: all registers 0, .. no pins seen"
 abbrev pub fresh : Encoder

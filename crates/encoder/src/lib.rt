@@ -1,6 +1,6 @@
 // One encoder: its count, the registers CNFG and STAT as numbers, and the pins last seen.
 ghost use Rattle.std.specs.Prelude.{◌≡◌, Bool};
-ghost use Rattle.encoder.specs.Encoder.{stored, kept, counted, quadrature, clocked, onCnfg, onSelect, onPins, registerOf, fresh};
+ghost use Rattle.encoder.specs.Encoder.{stored, kept, counted, quadrature, clocked, on_cnfg, on_select, on_pins, register_of, fresh};
 
 use encoder_count::{bit_pattern, kept_count, wrapping_down, wrapping_up};
 use encoder_pins::{places, unsees};
@@ -98,7 +98,7 @@ impl Encoder {
 
     // A pins record: bit 0 is A, bit 1 is B.
     pub fn pins(self, v: u8) -> Encoder
-        ensures { result ≡ onPins v self }
+        ensures { result ≡ on_pins v self }
     {
         let c = self.cnfg;
         // EN 1, RST 0 and MODE 0, by one test
@@ -118,7 +118,7 @@ impl Encoder {
     }
 
     pub fn write_cnfg(self, v: u32) -> Encoder
-        ensures { result ≡ onCnfg v self }
+        ensures { result ≡ on_cnfg v self }
     {
         let c = self.cnfg;
         Encoder {
@@ -132,7 +132,7 @@ impl Encoder {
 
     // SELECT was written: whether it routed this encoder before, and does now.
     pub fn rerouted(self, was: bool, now: bool) -> Encoder
-        ensures { result ≡ onSelect was now self }
+        ensures { result ≡ on_select was now self }
     {
         Encoder {
             count: self.count,
@@ -144,7 +144,7 @@ impl Encoder {
     }
 
     pub fn register(self, register: u64) -> u64
-        ensures { result ≡ registerOf register self }
+        ensures { result ≡ register_of register self }
     {
         if register == 0 {
             return self.cnfg as u64;

@@ -5,13 +5,13 @@ use lib.IntN.{+ℤ_one, -ℤ_one, +ℤ_comm}
 use lib.Signed.{mag, lt_z, non_neg}
 use mir.Facts.{to_z_pos}
 use Rattle.encoder_count.specs.Count.{pattern, signed, wrap}
-use Rattle.encoder_count.proofs.Wrap.{pattern_lt, pattern-suc, pattern-pred}
+use Rattle.encoder_count.proofs.Wrap.{pattern_lt, pattern_suc, pattern_pred}
 
 abbrev pub held : ℤ → ℤ
 held z = to_z w32 (of_z w32 z)
 
-pub held-is : (z : ℤ) → mag z < 2147483648 → held z ≡ z
-held-is z h = to_z-of_z (record { sfits = h })
+pub held_is : (z : ℤ) → mag z < 2147483648 → held z ≡ z
+held_is z h = to_z-of_z (record { sfits = h })
 
 -- ---- the bit pattern
 
@@ -81,12 +81,12 @@ module _ (z y : ℤ) (b w : ℕ) (fits : SFits w32 z) (is : b ≡ pattern (held 
   back = to_z-of_z (record { sfits = fits' }) ∙ made
 
   pub up : w ≡ (b + 1) % 4294967296 → held y ≡ wrap (z +ℤ pos 1)
-  up e = back ∙ ap signed (e ∙ ap (λ (n : ℕ). (n + 1) % 4294967296) at ∙ sym (pattern-suc z)) ∙ ap wrap (sym (+ℤ_one z))
+  up e = back ∙ ap signed (e ∙ ap (λ (n : ℕ). (n + 1) % 4294967296) at ∙ sym (pattern_suc z)) ∙ ap wrap (sym (+ℤ_one z))
 
   pub down : w < 4294967296 → (w + 1) % 4294967296 ≡ b → held y ≡ wrap (z +ℤ negsuc 0)
   down small e =
       let less : w ≡ (pattern z + 4294967295) % 4294967296 = omega (arith, at, pattern_lt z) in
-      back ∙ ap signed (less ∙ sym (pattern-pred z)) ∙ ap wrap (sym (-ℤ_one z))
+      back ∙ ap signed (less ∙ sym (pattern_pred z)) ∙ ap wrap (sym (-ℤ_one z))
 
 -- ---- a test of the count is one of its bits, which are its pattern
 

@@ -7,7 +7,7 @@ use native.Mathlib.Omega.{arith}
 use lib.Dec.{T, eqb, eqb→eq}
 use lib.ListN.{replicate}
 use Rattle.bits.specs.Bits.{bit, num}
-use Rattle.encoder_stat.specs.Stat.{statOf, marked}
+use Rattle.encoder_stat.specs.Stat.{stat_of, marked}
 use Rattle.laws.proofs.Table.{every, at}
 
 low : (m q r : ℕ) → m ≡ 2 * q + r → r % 2 ≡ m % 2
@@ -36,21 +36,21 @@ by_bits f rule t stat =
     ∙ six rule stat
 
 -- whether a step back or forward from the bit pattern x passes the unsigned or the signed border
-abbrev pub passesUnsigned : Bool → ℕ → Bool
-passesUnsigned back x = eqb x (cond back 0 4294967295)
+abbrev pub passes_unsigned : Bool → ℕ → Bool
+passes_unsigned back x = eqb x (cond back 0 4294967295)
 
-abbrev pub passesSigned : Bool → ℕ → Bool
-passesSigned back x = eqb x (cond back 2147483648 2147483647)
+abbrev pub passes_signed : Bool → ℕ → Bool
+passes_signed back x = eqb x (cond back 2147483648 2147483647)
 
 -- a step from there
 abbrev marking : Bool → ℕ → Bool → Bool → Bool → Bool → Bool → Bool → ℕ
 marking back x dir err uovr sovr uoerr soerr =
-    statOf back err (uovr || passesUnsigned back x) (sovr || passesSigned back x) (uoerr || (uovr && passesUnsigned back x)) (soerr || (sovr && passesSigned back x))
+    stat_of back err (uovr || passes_unsigned back x) (sovr || passes_signed back x) (uoerr || (uovr && passes_unsigned back x)) (soerr || (sovr && passes_signed back x))
 
 -- from x, which may go by the direction, of which d is the number
 module _ (x : Bool → ℕ) (f : ℕ → ℕ → ℕ)
     (true-way : T (every (λ n _. eqb (f 1 n) (on (marking true (x true)) n)) 0 (replicate 64 0)))
     (false-way : T (every (λ n _. eqb (f 0 n) (on (marking false (x false)) n)) 0 (replicate 64 0))) where
-  pub by-direction : (back : Bool) (d : ℕ) → d ≡ num back → (stat : ℕ) → f d (stat % 64) ≡ marked back (x back) stat
-  by-direction true d e stat = rw e (by_bits (f 1) (marking true (x true)) true-way stat)
-  by-direction false d e stat = rw e (by_bits (f 0) (marking false (x false)) false-way stat)
+  pub by_direction : (back : Bool) (d : ℕ) → d ≡ num back → (stat : ℕ) → f d (stat % 64) ≡ marked back (x back) stat
+  by_direction true d e stat = rw e (by_bits (f 1) (marking true (x true)) true-way stat)
+  by_direction false d e stat = rw e (by_bits (f 0) (marking false (x false)) false-way stat)

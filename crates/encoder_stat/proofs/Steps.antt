@@ -11,22 +11,22 @@ use borrow.Author.Tests.{ne_eqb}
 use Rattle.bits.specs.Bits.{bit}
 use Rattle.encoder_count.specs.Count.{pattern}
 use Rattle.encoder_count.proofs.Machine.{bits_are}
-use Rattle.encoder_stat.specs.Stat.{statOf, marked}
+use Rattle.encoder_stat.specs.Stat.{stat_of, marked}
 
 -- the step from 1 passes no border
-plain : (back : Bool) (s : ℕ) → marked back 1 s ≡ statOf back (bit 1 s) (bit 2 s || false) (bit 3 s || false) (bit 4 s || (bit 2 s && false)) (bit 5 s || (bit 3 s && false))
+plain : (back : Bool) (s : ℕ) → marked back 1 s ≡ stat_of back (bit 1 s) (bit 2 s || false) (bit 3 s || false) (bit 4 s || (bit 2 s && false)) (bit 5 s || (bit 3 s && false))
 plain true s = refl
 plain false s = refl
 
 module _ (at : ℤ) (stat s : ℕ) (small : mag at < 2147483648) (back : Bool) where
   -- at an end
-  pub step-at : (b : ℕ) → of_z w32 at ≡ b → s ≡ marked back b stat → s ≡ marked back (pattern at) stat
-  step-at b end h = h ∙ ap (λ (i : ℕ). marked back i stat) (sym end ∙ bits_are at small)
+  pub step_at : (b : ℕ) → of_z w32 at ≡ b → s ≡ marked back b stat → s ≡ marked back (pattern at) stat
+  step_at b end h = h ∙ ap (λ (i : ℕ). marked back i stat) (sym end ∙ bits_are at small)
 
   -- between the ends
-  pub step-between : (of_z w32 at ≡ cond back 0 4294967295 → ⊥) → (of_z w32 at ≡ cond back 2147483648 2147483647 → ⊥) → s ≡ marked back 1 stat
+  pub step_between : (of_z w32 at ≡ cond back 0 4294967295 → ⊥) → (of_z w32 at ≡ cond back 2147483648 2147483647 → ⊥) → s ≡ marked back 1 stat
       → s ≡ marked back (pattern at) stat
-  step-between not-unsigned not-signed h =
+  step_between not-unsigned not-signed h =
       rw (
         ne_eqb (pattern at) (cond back 0 4294967295) (λ e. not-unsigned (bits_are at small ∙ e)),
         ne_eqb (pattern at) (cond back 2147483648 2147483647) (λ e. not-signed (bits_are at small ∙ e)),

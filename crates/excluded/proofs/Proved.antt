@@ -5,18 +5,18 @@ use mathlib.Core.Path.{◌≡◌, refl, sym, ap}
 use mathlib.Core.List.{List, [], ◌∷◌, ◌++◌}
 use native.Mathlib.Omega.{arith}
 use lib.ListN.{length, replicate}
-use Rattle.laws.specs.Each.{mapFrom}
+use Rattle.laws.specs.Each.{map_from}
 use Rattle.fold.specs.Run.{Run, step, resumed, run_of, tally}
-use Rattle.fold.specs.Output.{number_of, bytes_of, over, outputOf}
+use Rattle.fold.specs.Output.{number_of, bytes_of, over, output_of}
 use Rattle.fold.specs.Device.{records}
-use Rattle.encoder.specs.Encoder.{statOf}
+use Rattle.encoder.specs.Encoder.{stat_of}
 use Rattle.select.specs.Select.{field_of, some}
 use Rattle.numbers.specs.Bytes.{byte, le_of}
-use Rattle.trailer.specs.Trailer.{trailerOf}
-use Rattle.wire.specs.Decode.{decodeOf}
-use Rattle.records.specs.Record.{named_of, writeOf, read_of, pinsOf, ticksOf, answer_of}
+use Rattle.trailer.specs.Trailer.{trailer_of}
+use Rattle.wire.specs.Decode.{decode_of}
+use Rattle.records.specs.Record.{named_of, write_of, read_of, pins_of, ticks_of, answer_of}
 use Rattle.bank.specs.Bank as bank
-use Rattle.replay.specs.Replay.{played, playOf, replayFrom, replayOf}
+use Rattle.replay.specs.Replay.{played, play_of, replay_from, replay_of}
 use Rattle.banks.specs.declared.State.{State}
 use Rattle.walk.specs.Turn.{turn_of, written}
 use Rattle.replay.specs.Facts.{whole}
@@ -40,8 +40,8 @@ first_byte out = byte out 0
 refused_none : (k : ℕ) → suc k ≡ 0 → ⊥
 refused_none k e = omega arith
 
-applied-five : (k : ℕ) → suc k + 1 + 1 + 1 + 1 + 1 ≡ 5 → ⊥
-applied-five k e = omega arith
+applied_five : (k : ℕ) → suc k + 1 + 1 + 1 + 1 + 1 ≡ 5 → ⊥
+applied_five k e = omega arith
 
 right : Meets played
 right log out a n e t enough =
@@ -62,17 +62,17 @@ fixed u f g c x p h = (exact u f (h f 0) refl, exact u g (h g 0) refl)
 -- ---- all
 
 pub excluded : Excluded
-unfolding replayOf replayFrom trailerOf playOf run_of resumed step tally records turn_of bank.turn_of le_of decodeOf named_of writeOf read_of pinsOf ticksOf answer_of field_of some mapFrom statOf bank.fresh bytes_of over outputOf
+unfolding replay_of replay_from trailer_of play_of run_of resumed step tally records turn_of bank.turn_of le_of decode_of named_of write_of read_of pins_of ticks_of answer_of field_of some map_from stat_of bank.fresh bytes_of over output_of
 excluded = record {
-  refuses-all = λ k h. refused_none _ (h whole output 0 5 1 refl (omega arith)).0;
-  never-moves = λ h. let e : ◌≡◌ {A = ℕ} 0 1 = ap first_byte (h whole output 0 5 1 refl (omega arith)).2 in omega arith;
-  one-reading = λ v h.
+  refuses_all = λ k h. refused_none _ (h whole output 0 5 1 refl (omega arith)).0;
+  never_moves = λ h. let e : ◌≡◌ {A = ℕ} 0 1 = ap first_byte (h whole output 0 5 1 refl (omega arith)).2 in omega arith;
+  one_reading = λ v h.
       let a : v % 256 ≡ 1 = ap first_byte (h whole output 0 5 1 refl (omega arith)).2 in
       let b : v % 256 ≡ 0 = ap first_byte (h reading output 0 1 1 refl (omega arith)).2 in
       omega arith;
-  first-only = λ h. let e : ◌≡◌ {A = ℕ} 0 1 = ap first_byte (h whole output 0 5 1 refl (omega arith)).2 in omega arith;
-  invented-tally = λ k h. applied-five _ (h whole output 0 5 1 refl (omega arith)).1;
-  fixed-pwm = λ c x p h. let e = fixed (pwm 1_000) 1_000_000 40_000 c x p h in omega arith;
-  fixed-spi = λ c x p h. let e = fixed (spi 1_000) 4_000_000_000 40_000 c x p h in omega arith;
+  first_only = λ h. let e : ◌≡◌ {A = ℕ} 0 1 = ap first_byte (h whole output 0 5 1 refl (omega arith)).2 in omega arith;
+  invented_tally = λ k h. applied_five _ (h whole output 0 5 1 refl (omega arith)).1;
+  fixed_pwm = λ c x p h. let e = fixed (pwm 1_000) 1_000_000 40_000 c x p h in omega arith;
+  fixed_spi = λ c x p h. let e = fixed (spi 1_000) 4_000_000_000 40_000 c x p h in omega arith;
   right = right;
 }

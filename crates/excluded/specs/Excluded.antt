@@ -6,19 +6,19 @@ use Rattle.fold.specs.Turn.{lift, retell}
 use Rattle.fold.specs.Run.{Run, halted, under, resumed, run_of}
 use Rattle.fold.specs.Output.{number_of}
 use Rattle.encoder.specs.declared.Encoder.{Encoder}
-use Rattle.wire.specs.Decode.{readsIn}
-use Rattle.trailer.specs.Trailer.{trailerOf, recordsOf, editionIn}
+use Rattle.wire.specs.Decode.{reads_in}
+use Rattle.trailer.specs.Trailer.{trailer_of, records_of, edition_in}
 use Rattle.trailer.specs.declared.Trailer.TheVariants.{Found}
 use Rattle.banks.specs.declared.State.{State}
-use Rattle.banks.specs.State.{fresh, bothBanks}
-use Rattle.replay.specs.Replay.{played, replayOf}
+use Rattle.banks.specs.State.{fresh, both_banks}
+use Rattle.replay.specs.Replay.{played, replay_of}
 use Rattle.walk.specs.Turn.{turn_of, written}
 use Rattle.rate.specs.Rate.{pwm, spi, Outcome}
 
 -- a replay that goes by `run` on with the records of a log that none of 1 to 6 refuses: it gives the answer and the output that `replay` promises
 abbrev pub Meets : (Edition → List (List ℕ) → Run State ℕ) → Type 0
-Meets run = (log out : List ℕ) (a n e : ℕ) → trailerOf log ≡ Found a n e → 8 * readsIn (recordsOf log) ≤ length out
-    → let x = run (editionIn log) (recordsOf log) in let y = replayOf log (length out) in
+Meets run = (log out : List ℕ) (a n e : ℕ) → trailer_of log ≡ Found a n e → 8 * reads_in (records_of log) ≤ length out
+    → let x = run (edition_in log) (records_of log) in let y = replay_of log (length out) in
     (number_of x.course ≡ number_of y.course) × (x.applied ≡ y.applied) × (written x out ≡ written y out)
 
 -- a state whose counts are all 0
@@ -26,22 +26,22 @@ abbrev pub uncounted : Encoder → Encoder
 uncounted e = record { count = pos 0; cnfg = e.cnfg; stat = e.stat; pins = e.pins; seen = e.seen }
 
 abbrev pub unmoved : State → State
-unmoved = bothBanks (λ b. record { select = b.select; encoders = map uncounted b.encoders; pwms = b.pwms; i2c = b.i2c })
+unmoved = both_banks (λ b. record { select = b.select; encoders = map uncounted b.encoders; pwms = b.pwms; i2c = b.i2c })
 
 -- by paper 01's whole log, and a log that reads SELECT where it is 0; by paper 01's requests PWM 1,000 and 40 Hz, SPI 4,000,000
 -- and 40 Hz with tolerance 0
 pub record Excluded : Type 0 where
   -- "a replay that refuses all", each by any number but 0
-  pub refuses-all : (k : List (List ℕ) → ℕ) → Meets (λ e rs. halted fresh 0 [] (suc (k rs))) → ⊥
+  pub refuses_all : (k : List (List ℕ) → ℕ) → Meets (λ e rs. halted fresh 0 [] (suc (k rs))) → ⊥
   -- "one that never moves a count", or "always prints one reading", any v
-  pub never-moves : Meets (λ e rs. run_of (λ s r. lift unmoved (turn_of e s r)) fresh rs) → ⊥
-  pub one-reading : (v : ℕ) → Meets (λ e rs. run_of (λ s r. retell (λ (w : ℕ). v) (turn_of e s r)) fresh rs) → ⊥
+  pub never_moves : Meets (λ e rs. run_of (λ s r. lift unmoved (turn_of e s r)) fresh rs) → ⊥
+  pub one_reading : (v : ℕ) → Meets (λ e rs. run_of (λ s r. retell (λ (w : ℕ). v) (turn_of e s r)) fresh rs) → ⊥
   -- "one that applies the first record and then only advances its tally": the others leave the state, and what they read is read there
-  pub first-only : Meets (λ e rs. resumed (λ s r. lift (λ (t : State). s) (turn_of e s r)) (played e (take 1 rs)) (drop 1 rs)) → ⊥
+  pub first_only : Meets (λ e rs. resumed (λ s r. lift (λ (t : State). s) (turn_of e s r)) (played e (take 1 rs)) (drop 1 rs)) → ⊥
   -- "an invented applied tally": by any number more than were applied
-  pub invented-tally : (k : List (List ℕ) → ℕ) → Meets (λ e rs. resumed (turn_of e) (under fresh (suc (k rs)) []) rs) → ⊥
+  pub invented_tally : (k : List (List ℕ) → ℕ) → Meets (λ e rs. resumed (turn_of e) (under fresh (suc (k rs)) []) rs) → ⊥
   -- "a rate finder with a fixed pair", any pair and period
-  pub fixed-pwm : (c x p : ℕ) → ((f tol : ℕ) → Outcome (pwm 1_000) f tol (0, c, x, p)) → ⊥
-  pub fixed-spi : (c x p : ℕ) → ((f tol : ℕ) → Outcome (spi 1_000) f tol (0, c, x, p)) → ⊥
+  pub fixed_pwm : (c x p : ℕ) → ((f tol : ℕ) → Outcome (pwm 1_000) f tol (0, c, x, p)) → ⊥
+  pub fixed_spi : (c x p : ℕ) → ((f tol : ℕ) → Outcome (spi 1_000) f tol (0, c, x, p)) → ⊥
   -- the run that paper 01 asks for is not excluded
   pub right : Meets played

@@ -2,7 +2,7 @@
 // the next one is 1.
 ghost use Rattle.std.specs.Prelude.{◌≡◌, ◌≤◌, get_or};
 ghost use Rattle.decimal.specs.Put.{Put};
-ghost use Rattle.form.specs.Form.{sign_of, pluralOf, part_of, takenBy, formText};
+ghost use Rattle.form.specs.Form.{sign_of, plural_of, part_of, taken_by, form_text};
 
 use bits::number;
 
@@ -19,7 +19,7 @@ fn put_sign(text: &mut [u8], at: usize, n: u64) -> usize
 }
 
 fn put_plural(text: &mut [u8], at: usize, n: u64) -> usize
-    ensures { Put text.old at (pluralOf n) text.new result }
+    ensures { Put text.old at (plural_of n) text.new result }
 {
     if n == 1 {
         return at;
@@ -44,7 +44,7 @@ fn put_part(text: &mut [u8], at: usize, b: u8, n: u64) -> usize
 
 // How many numbers a byte of a form takes.
 fn taken(b: u8) -> usize
-    ensures { (result ≡ takenBy b) × (result ≤ 1) }
+    ensures { (result ≡ taken_by b) × (result ≤ 1) }
 {
     number((b == b'#') | ((b == b'^') | (b == b'~'))) as usize
 }
@@ -59,7 +59,7 @@ fn number_at(numbers: &[u64], k: usize) -> u64
 }
 
 pub fn put_form(text: &mut [u8], at: usize, form: &[u8], numbers: &[u64]) -> usize
-    ensures { Put text.old at (formText form.now numbers.now) text.new result }
+    ensures { Put text.old at (form_text form.now numbers.now) text.new result }
 {
     let mut end = at;
     let mut k: usize = 0;

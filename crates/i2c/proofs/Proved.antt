@@ -9,19 +9,19 @@ use Rattle.fold.specs.Turn.{Turn, goes, refused}
 use Rattle.i2c_code.specs.declared.Phase.{Phase}
 use Rattle.i2c.specs.declared.I2c.{I2c}
 use Rattle.i2c_code.specs.declared.Code.{Code}
-use Rattle.i2c_code.specs.Code.{code_of, state_of, stopAlone, allowed, forbidden}
+use Rattle.i2c_code.specs.Code.{code_of, state_of, stop_alone, allowed, forbidden}
 use Rattle.i2c_code.specs.Facts.{accepts}
-use Rattle.i2c.specs.I2c.{code, recalled, ran, goTurn}
+use Rattle.i2c.specs.I2c.{code, recalled, ran, go_turn}
 use Rattle.i2c.specs.How.{gone}
 use Rattle.i2c.specs.Facts.{Recalled, Answered}
-use Rattle.i2c_code.proofs.Answers.{all-heard, not_there}
+use Rattle.i2c_code.proofs.Answers.{all_heard, not_there}
 
-eleven-first : (c : I2c) → allowed c.phase (code c) ≡ false → goTurn c ≡ refused 11
-eleven-first c h = rw h
+eleven_first : (c : I2c) → allowed c.phase (code c) ≡ false → go_turn c ≡ refused 11
+eleven_first c h = rw h
 
-fall-away : (p : Phase) (r c : ℕ) → accepts true p r c ≡ accepts false p r c && not (eqb (state_of p) 2 && stopAlone (code_of r c))
+fall_away : (p : Phase) (r c : ℕ) → accepts true p r c ≡ accepts false p r c && not (eqb (state_of p) 2 && stop_alone (code_of r c))
 unfolding forbidden
-fall-away p r c = less (allowed p (code_of r c)) (not (eqb (state_of p) 2 && stopAlone (code_of r c)))
+fall_away p r c = less (allowed p (code_of r c)) (not (eqb (state_of p) 2 && stop_alone (code_of r c)))
   where
     less : (may bars : Bool) → (may && bars) ≡ ((may && true) && bars)
     less true bars = refl
@@ -35,12 +35,12 @@ after_stop true true s t a e = rw e
 after_stop false true s t a e = refl
 after_stop r false s t a e = refl
 
-after-send : (r b s t a : Bool) → r ≡ false → recalled false (made r b s t a) ≡ false
-after-send r true s t a e = rw e
-after-send r false s t a e = refl
+after_send : (r b s t a : Bool) → r ≡ false → recalled false (made r b s t a) ≡ false
+after_send r true s t a e = rw e
+after_send r false s t a e = refl
 
-after-byte : (r b s t a : Bool) → b ≡ true → r ≡ true → t ≡ false → recalled false (made r b s t a) ≡ a
-after-byte r b s t a e f g = rw (e, f, g)
+after_byte : (r b s t a : Bool) → b ≡ true → r ≡ true → t ≡ false → recalled false (made r b s t a) ≡ a
+after_byte r b s t a e f g = rw (e, f, g)
 
 -- what is false with no failure is false with any
 still : (c : I2c) → recalled false (code c) ≡ false → (ran c).acknowledged ≡ false
@@ -48,28 +48,28 @@ still c h = let heard = not (eqb (ran c).failure 1) in ap (λ (b : Bool). heard 
 
 pub recalls : Recalled
 recalls = record {
-  send = λ c b r. still c (after-send (code c).receive (code c).byte (code c).start (code c).stop (code c).ack r);
+  send = λ c b r. still c (after_send (code c).receive (code c).byte (code c).start (code c).stop (code c).ack r);
   stop = λ c s. still c (after_stop (code c).receive (code c).byte (code c).start (code c).stop (code c).ack s);
-  received = λ c b r s f. ap (λ (n : ℕ). (gone c n).acknowledged) f ∙ after-byte (code c).receive (code c).byte (code c).start (code c).stop (code c).ack b r s;
-  fall-away = fall-away;
-  eleven-first = eleven-first;
+  received = λ c b r s f. ap (λ (n : ℕ). (gone c n).acknowledged) f ∙ after_byte (code c).receive (code c).byte (code c).start (code c).stop (code c).ack b r s;
+  fall_away = fall_away;
+  eleven_first = eleven_first;
 }
 
 -- ---- the slave's answer
 
-refusal-goes : (k : ℕ) (d : I2c) → ◌≡◌ {A = Turn I2c ℕ} (refused k) (goes d) → ⊥
-refusal-goes k d h = let z : ◌≡◌ {A = ℕ} 0 1 = cc in omega arith
+refusal_goes : (k : ℕ) (d : I2c) → ◌≡◌ {A = Turn I2c ℕ} (refused k) (goes d) → ⊥
+refusal_goes k d h = let z : ◌≡◌ {A = ℕ} 0 1 = cc in omega arith
 
 -- an accepted GO has run
-has-run : (may bars : Bool) (d e : I2c) → ◌≡◌ {A = Turn I2c ℕ} (cond may (cond bars (refused 16) (goes d)) (refused 11)) (goes e) → d ≡ e
-has-run true true d e h = absurd (refusal-goes 16 e h)
-has-run true false d e h = cc
-has-run false bars d e h = absurd (refusal-goes 11 e h)
+has_run : (may bars : Bool) (d e : I2c) → ◌≡◌ {A = Turn I2c ℕ} (cond may (cond bars (refused 16) (goes d)) (refused 11)) (goes e) → d ≡ e
+has_run true true d e h = absurd (refusal_goes 16 e h)
+has_run true false d e h = cc
+has_run false bars d e h = absurd (refusal_goes 11 e h)
 
 pub answered : Answered
 answered = record {
-  used-up = λ c d e. ap (λ (x : I2c). x.answer) (sym (has-run (allowed c.phase (code c)) (forbidden c.phase c.acknowledged (code c)) (ran c) d e));
-  plain = λ c e. ap (gone c) (all-heard c.answer (code c) e);
+  used_up = λ c d e. ap (λ (x : I2c). x.answer) (sym (has_run (allowed c.phase (code c)) (forbidden c.phase c.acknowledged (code c)) (ran c) d e));
+  plain = λ c e. ap (gone c) (all_heard c.answer (code c) e);
   address = λ c s b.
       let f = not_there c.answer (code c) s b in
       (f, ap (λ (n : ℕ). (gone c n).phase) f, ap (λ (n : ℕ). (gone c n).acknowledged) f);

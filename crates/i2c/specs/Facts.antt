@@ -5,10 +5,10 @@ use Rattle.bits.specs.Bits.{bit}
 use Rattle.fold.specs.Turn.{goes, refused}
 use Rattle.i2c_code.specs.declared.Phase.{Phase}
 use Rattle.i2c_code.specs.declared.Phase.TheVariants.{Idle}
-use Rattle.i2c_code.specs.Code.{code_of, state_of, stopAlone, allowed, ended}
+use Rattle.i2c_code.specs.Code.{code_of, state_of, stop_alone, allowed, ended}
 use Rattle.i2c_code.specs.Facts.{accepts}
 use Rattle.i2c.specs.declared.I2c.{I2c}
-use Rattle.i2c.specs.I2c.{code, recalled, ran, goTurn}
+use Rattle.i2c.specs.I2c.{code, recalled, ran, go_turn}
 
 pub record Recalled : Type 0 where
   -- "is false after any send or any STOP"; after any other byte it is the ACK, if the slave was there to send it
@@ -16,13 +16,13 @@ pub record Recalled : Type 0 where
   pub stop : (c : I2c) → (code c).stop ≡ true → (ran c).acknowledged ≡ false
   pub received : (c : I2c) → (code c).byte ≡ true → (code c).receive ≡ true → (code c).stop ≡ false → (ran c).failure ≡ 0 → (ran c).acknowledged ≡ (code c).ack
   -- "when true the four STOP-alone codes of RX idle fall away", and no other
-  pub fall-away : (p : Phase) (r c : ℕ) → accepts true p r c ≡ accepts false p r c && not (eqb (state_of p) 2 && stopAlone (code_of r c))
+  pub fall_away : (p : Phase) (r c : ℕ) → accepts true p r c ≡ accepts false p r c && not (eqb (state_of p) 2 && stop_alone (code_of r c))
   -- "tested after 11"
-  pub eleven-first : (c : I2c) → allowed c.phase (code c) ≡ false → goTurn c ≡ refused 11
+  pub eleven_first : (c : I2c) → allowed c.phase (code c) ≡ false → go_turn c ≡ refused 11
 
 pub record Answered : Type 0 where
   -- "used up by that GO", one that is accepted: "Without it all is acknowledged"
-  pub used-up : (c d : I2c) → goTurn c ≡ goes d → d.answer ≡ 3
+  pub used_up : (c d : I2c) → go_turn c ≡ goes d → d.answer ≡ 3
   -- and so a GO does what paper 01 and h) say
   pub plain : (c : I2c) → c.answer ≡ 3 → ran c
       ≡ record { addr = c.addr; cntl = c.cntl; phase = ended false (code c); acknowledged = recalled false (code c); answer = 3; failure = 0 }

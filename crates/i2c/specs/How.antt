@@ -3,10 +3,10 @@
 use Rattle.std.specs.Prelude.{ℕ, cond, eqb}
 use Rattle.i2c.specs.declared.I2c.{I2c}
 use Rattle.i2c_code.specs.Code.{ended}
-use Rattle.i2c.specs.I2c.{code, recalled, on_addr, onCntl, ran}
+use Rattle.i2c.specs.I2c.{code, recalled, on_addr, on_cntl, ran}
 
-abbrev pub onWrite : ℕ → ℕ → I2c → I2c
-onWrite register v c = cond (eqb register 0) (on_addr v c) (cond (eqb register 1) (onCntl v c) (ran c))
+abbrev pub on_write : ℕ → ℕ → I2c → I2c
+on_write register v c = cond (eqb register 0) (on_addr v c) (cond (eqb register 1) (on_cntl v c) (ran c))
 
 abbrev pub gone : I2c → ℕ → I2c
 gone c failure = let nobody = eqb failure 1 in

@@ -18,12 +18,12 @@ recalled nobody k = not nobody && (k.byte && (k.receive && (not k.stop && k.ack)
 abbrev pub on_addr : ℕ → I2c → I2c
 on_addr v c = record { addr = v; cntl = c.cntl; phase = c.phase; acknowledged = c.acknowledged; answer = c.answer; failure = c.failure }
 
-abbrev pub onCntl : ℕ → I2c → I2c
-onCntl v c = record { addr = c.addr; cntl = v; phase = c.phase; acknowledged = c.acknowledged; answer = c.answer; failure = c.failure }
+abbrev pub on_cntl : ℕ → I2c → I2c
+on_cntl v c = record { addr = c.addr; cntl = v; phase = c.phase; acknowledged = c.acknowledged; answer = c.answer; failure = c.failure }
 
 -- a record "tells how the slave answers the next accepted GO"; "a second one before it replaces the first"
-abbrev pub onAnswer : ℕ → I2c → I2c
-onAnswer v c = record { addr = c.addr; cntl = c.cntl; phase = c.phase; acknowledged = c.acknowledged; answer = v; failure = c.failure }
+abbrev pub on_answer : ℕ → I2c → I2c
+on_answer v c = record { addr = c.addr; cntl = c.cntl; phase = c.phase; acknowledged = c.acknowledged; answer = v; failure = c.failure }
 
 -- the code that a GO would run; the sequencer once it has run; the answer "is used up by that GO"
 abbrev pub code : I2c → Code
@@ -34,17 +34,17 @@ ran c = let failure = failed c.answer (code c) in let nobody = eqb failure 1 in
     record { addr = c.addr; cntl = c.cntl; phase = ended nobody (code c); acknowledged = recalled nobody (code c); answer = 3; failure = failure }
 
 -- 11 "GO with a control code not allowed". 16 is "tested after 11"
-abbrev pub goTurn : I2c → Turn I2c ℕ
-goTurn c = cond (allowed c.phase (code c)) (cond (forbidden c.phase c.acknowledged (code c)) (refused 16) (goes (ran c))) (refused 11)
+abbrev pub go_turn : I2c → Turn I2c ℕ
+go_turn c = cond (allowed c.phase (code c)) (cond (forbidden c.phase c.acknowledged (code c)) (refused 16) (goes (ran c))) (refused 11)
 
 -- a write: "0 ADDR rw, 1 CNTL rw, 2 GO w"
-abbrev pub writeTurn : ℕ → ℕ → I2c → Turn I2c ℕ
-writeTurn register v c = cond (eqb register 0) (goes (on_addr v c)) (cond (eqb register 1) (goes (onCntl v c)) (goTurn c))
+abbrev pub write_turn : ℕ → ℕ → I2c → Turn I2c ℕ
+write_turn register v c = cond (eqb register 0) (goes (on_addr v c)) (cond (eqb register 1) (goes (on_cntl v c)) (go_turn c))
 
 -- ---- what is read: "0 ADDR, 1 CNTL, .. 3 state"; "Register 4 of block 3 reads the last GO's failure"
 
-abbrev pub registerOf : ℕ → I2c → ℕ
-registerOf register c = cond (eqb register 0) c.addr (cond (eqb register 1) c.cntl (cond (eqb register 3) (state_of c.phase) c.failure))
+abbrev pub register_of : ℕ → I2c → ℕ
+register_of register c = cond (eqb register 0) c.addr (cond (eqb register 1) c.cntl (cond (eqb register 3) (state_of c.phase) c.failure))
 
 -- "Fresh state: all registers 0, I2C idle"; the fact "starts false"; without an answer "all is acknowledged"
 abbrev pub fresh : I2c

@@ -1,8 +1,8 @@
 // The I2C control sequencer: the two registers that GO takes its code from, and the state that it leaves.
 ghost use Rattle.std.specs.Prelude.{◌≡◌};
 ghost use Rattle.i2c_code.specs.Code.{allowed, forbidden};
-ghost use Rattle.i2c.specs.I2c.{code, recalled, on_addr, onCntl, onAnswer, ran, registerOf, fresh};
-ghost use Rattle.i2c.specs.How.{onWrite};
+ghost use Rattle.i2c.specs.I2c.{code, recalled, on_addr, on_cntl, on_answer, ran, register_of, fresh};
+ghost use Rattle.i2c.specs.How.{on_write};
 
 use i2c_code::{Code, Phase, allowed, ended, failed, forbidden, state};
 
@@ -54,7 +54,7 @@ impl I2c {
     }
 
     fn write_cntl(self, v: u8) -> I2c
-        ensures { result ≡ onCntl v self }
+        ensures { result ≡ on_cntl v self }
     {
         let phase = self.phase;
         I2c {
@@ -103,7 +103,7 @@ impl I2c {
 
     // How the slave answers the next GO that is not refused.
     pub fn answer(self, v: u8) -> I2c
-        ensures { result ≡ onAnswer v self }
+        ensures { result ≡ on_answer v self }
     {
         let phase = self.phase;
         I2c {
@@ -118,7 +118,7 @@ impl I2c {
 
     // A write of ADDR, CNTL or GO, which are 0 to 2, that is not refused.
     pub fn write(self, register: u64, v: u8) -> I2c
-        ensures { result ≡ onWrite register v self }
+        ensures { result ≡ on_write register v self }
     {
         if register == 0 {
             return self.write_addr(v);
@@ -130,7 +130,7 @@ impl I2c {
     }
 
     pub fn register(self, register: u64) -> u64
-        ensures { result ≡ registerOf register self }
+        ensures { result ≡ register_of register self }
     {
         if register == 0 {
             return self.addr as u64;

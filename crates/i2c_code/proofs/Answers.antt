@@ -15,21 +15,21 @@ module _ (answer : ℕ) (k : Code) where
   abbrev unheard : Bool
   unheard = k.byte && (not k.receive && not (bit 1 answer))
 
-  pub of-address : nobody ≡ true → 1 ≡ failed answer k
-  of-address h = taken nobody 1 (cond unheard 2 0) 1 h refl
+  pub of_address : nobody ≡ true → 1 ≡ failed answer k
+  of_address h = taken nobody 1 (cond unheard 2 0) 1 h refl
 
-  pub of-data : nobody ≡ false → unheard ≡ true → 2 ≡ failed answer k
-  of-data h e = left nobody 1 (cond unheard 2 0) 2 h (taken unheard 2 0 2 e refl)
+  pub of_data : nobody ≡ false → unheard ≡ true → 2 ≡ failed answer k
+  of_data h e = left nobody 1 (cond unheard 2 0) 2 h (taken unheard 2 0 2 e refl)
 
   pub of_none : nobody ≡ false → unheard ≡ false → 0 ≡ failed answer k
   of_none h e = left nobody 1 (cond unheard 2 0) 0 h (left unheard 2 0 0 e refl)
 
 -- an answer that acknowledges all
-pub all-heard : (answer : ℕ) (k : Code) → answer ≡ 3 → failed answer k ≡ 0
-all-heard answer k e = ap (λ (n : ℕ). failed n k) e ∙ sym (of_none 3 k (and-false k.start) (none k.byte k.receive))
+pub all_heard : (answer : ℕ) (k : Code) → answer ≡ 3 → failed answer k ≡ 0
+all_heard answer k e = ap (λ (n : ℕ). failed n k) e ∙ sym (of_none 3 k (and-false k.start) (none k.byte k.receive))
   where
     none : (b r : Bool) → (b && (not r && false)) ≡ false
     none b r = ap (λ (x : Bool). b && x) (and-false (not r)) ∙ and-false b
 
 pub not_there : (answer : ℕ) (k : Code) → k.start ≡ true → bit 0 answer ≡ false → failed answer k ≡ 1
-not_there answer k s b = sym (of-address answer k (ap (λ (x : Bool). x && not (bit 0 answer)) s ∙ ap not b))
+not_there answer k s b = sym (of_address answer k (ap (λ (x : Bool). x && not (bit 0 answer)) s ∙ ap not b))

@@ -8,20 +8,20 @@ use Rattle.laws.proofs.Cases.{taken, left}
 use Rattle.i2c_code.specs.declared.Phase.{Phase}
 use Rattle.i2c_code.specs.declared.Phase.TheVariants.{Idle, TxIdle, RxIdle}
 use Rattle.i2c_code.specs.declared.Code.{Code}
-use Rattle.i2c_code.specs.Code.{state_of, stopAlone, allowed, forbidden}
+use Rattle.i2c_code.specs.Code.{state_of, stop_alone, allowed, forbidden}
 
 module _ (p : Phase) where
-  pub in-idle : (receive : Bool) → p ≡ Idle → false ≡ eqb (state_of p) (cond receive 2 1)
-  in-idle true e = rw e
-  in-idle false e = rw e
+  pub in_idle : (receive : Bool) → p ≡ Idle → false ≡ eqb (state_of p) (cond receive 2 1)
+  in_idle true e = rw e
+  in_idle false e = rw e
 
-  pub in-tx : (receive : Bool) → p ≡ TxIdle → not receive ≡ eqb (state_of p) (cond receive 2 1)
-  in-tx true e = rw e
-  in-tx false e = rw e
+  pub in_tx : (receive : Bool) → p ≡ TxIdle → not receive ≡ eqb (state_of p) (cond receive 2 1)
+  in_tx true e = rw e
+  in_tx false e = rw e
 
-  pub in-rx : (receive : Bool) → p ≡ RxIdle → receive ≡ eqb (state_of p) (cond receive 2 1)
-  in-rx true e = rw e
-  in-rx false e = rw e
+  pub in_rx : (receive : Bool) → p ≡ RxIdle → receive ≡ eqb (state_of p) (cond receive 2 1)
+  in_rx true e = rw e
+  in_rx false e = rw e
 
   module _ (k : Code) where
     pub with_byte : (follows : Bool) → k.byte ≡ true → follows ≡ eqb (state_of p) (cond k.receive 2 1)
@@ -29,10 +29,10 @@ module _ (p : Phase) where
     unfolding allowed
     with_byte follows b e = taken k.byte _ _ _ b (ap (λ (x : Bool). not (k.receive && (k.ack && k.stop)) && (k.start || x)) e)
 
-    pub without-byte : (n : ℕ) → k.byte ≡ false → n ≡ state_of p → (not k.start && (k.stop && ltb 0 n)) ≡ allowed p k
+    pub without_byte : (n : ℕ) → k.byte ≡ false → n ≡ state_of p → (not k.start && (k.stop && ltb 0 n)) ≡ allowed p k
     unfolding allowed
-    without-byte n b e = left k.byte _ _ _ b (ap (λ (m : ℕ). not k.start && (k.stop && ltb 0 m)) e)
+    without_byte n b e = left k.byte _ _ _ b (ap (λ (m : ℕ). not k.start && (k.stop && ltb 0 m)) e)
 
-    pub stopped : (acknowledged received : Bool) → received ≡ eqb (state_of p) 2 → (acknowledged && (received && stopAlone k)) ≡ forbidden p acknowledged k
+    pub stopped : (acknowledged received : Bool) → received ≡ eqb (state_of p) 2 → (acknowledged && (received && stop_alone k)) ≡ forbidden p acknowledged k
     unfolding forbidden
-    stopped acknowledged received e = ap (λ (x : Bool). acknowledged && (x && stopAlone k)) e
+    stopped acknowledged received e = ap (λ (x : Bool). acknowledged && (x && stop_alone k)) e

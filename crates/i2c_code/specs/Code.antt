@@ -25,12 +25,12 @@ allowed p k = cond k.byte
     (not k.start && (k.stop && ltb 0 (state_of p)))
 
 -- "STOP alone": TX/RX 0, START 0, STOP 1, ACK and R/S any
-abbrev pub stopAlone : Code → Bool
-stopAlone k = not k.byte && (not k.start && k.stop)
+abbrev pub stop_alone : Code → Bool
+stop_alone k = not k.byte && (not k.start && k.stop)
 
 -- "A GO in RX idle with STOP alone after such a byte", RX idle being the state 2
 unfoldable pub forbidden : Phase → Bool → Code → Bool
-forbidden p acknowledged k = acknowledged && (eqb (state_of p) 2 && stopAlone k)
+forbidden p acknowledged k = acknowledged && (eqb (state_of p) 2 && stop_alone k)
 
 -- the failure: "value bit 0 address acknowledged, bit 1 data acknowledged"; "The address bit matters only with START, the data bit only when
 -- sending, and if both fail it is an address failure"; "0 none, 1 address, 2 data"

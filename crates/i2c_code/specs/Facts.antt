@@ -16,10 +16,10 @@ abbrev pub accepts : Bool → Phase → ℕ → ℕ → Bool
 accepts a p addr cntl = allowed p (code_of addr cntl) && not (forbidden p a (code_of addr cntl))
 
 -- of how many of a state's 32 combinations, R/S 0 or 1 and CNTL 0 to 15
-abbrev pub acceptedFrom : Bool → Phase → ℕ
-acceptedFrom a p = count (accepts a p 0) 16 + count (accepts a p 1) 16
+abbrev pub accepted_from : Bool → Phase → ℕ
+accepted_from a p = count (accepts a p 0) 16 + count (accepts a p 1) 16
 
 -- "of 96 state, R/S and CNTL combinations, 36 are allowed: 7 idle, 15 TX idle, 14 RX idle": now "a count per recalled fact"
 abbrev pub Sums : Type 0
-Sums = (a : Bool) → (acceptedFrom a Idle + acceptedFrom a TxIdle + acceptedFrom a RxIdle ≡ cond a 32 36)
-    × (acceptedFrom a Idle ≡ 7) × (acceptedFrom a TxIdle ≡ 15) × (acceptedFrom a RxIdle ≡ cond a 10 14)
+Sums = (a : Bool) → (accepted_from a Idle + accepted_from a TxIdle + accepted_from a RxIdle ≡ cond a 32 36)
+    × (accepted_from a Idle ≡ 7) × (accepted_from a TxIdle ≡ 15) × (accepted_from a RxIdle ≡ cond a 10 14)

@@ -7,167 +7,167 @@ use native.Mathlib.Omega.{arith}
 use lib.ListN.{length, get_or, set, take}
 use native.Mathlib.Numerals.{add-one}
 use lib.Seq.{sets, length-sets, length-take-le, take-suc, take_all}
-use Rattle.laws.proofs.Each.{long-field}
+use Rattle.laws.proofs.Each.{long_field}
 use Rattle.numbers.specs.Bytes.{byte, le_of, le_bytes}
-use Rattle.codec.specs.How.{saveWord, loadWord, saveMany, loadMany}
-use Rattle.codec.proofs.Loops.{loaded, loaded-none, loaded-more, loaded-all, saved, saved-none, saved-more, saved-all, sets-append}
+use Rattle.codec.specs.How.{save_word, load_word, save_many, load_many}
+use Rattle.codec.proofs.Loops.{loaded, loaded_none, loaded_more, loaded_all, saved, saved_none, saved_more, saved_all, sets_append}
 use Rattle.encoder.specs.declared.Encoder.{Encoder}
 use Rattle.pwm.specs.declared.Pwm.{Pwm}
 use Rattle.i2c.specs.declared.I2c.{I2c}
 use Rattle.banks.specs.declared.Flat.{Flat}
-use Rattle.image_words.specs.How.{i2cNumber, lowNumber, encoderOf}
-use Rattle.image_pwm.specs.How.{pwmOf, registersNumber, waveNumber}
-use Rattle.image_state.specs.How.{savePwm, loadPwm, withEncoders, withPwms}
+use Rattle.image_words.specs.How.{i2c_number, low_number, encoder_of}
+use Rattle.image_pwm.specs.How.{pwm_of, registers_number, wave_number}
+use Rattle.image_state.specs.How.{save_pwm, load_pwm, with_encoders, with_pwms}
 
 -- ---- loading
 
-abbrev pub flat-encoders : Flat → List Encoder → Flat
-flat-encoders f l = record { selects = f.selects; encoders = l; pwms = f.pwms; i2cs = f.i2cs }
+abbrev pub flat_encoders : Flat → List Encoder → Flat
+flat_encoders f l = record { selects = f.selects; encoders = l; pwms = f.pwms; i2cs = f.i2cs }
 
-abbrev pub flat-pwms : Flat → List Pwm → Flat
-flat-pwms f l = record { selects = f.selects; encoders = f.encoders; pwms = l; i2cs = f.i2cs }
+abbrev pub flat_pwms : Flat → List Pwm → Flat
+flat_pwms f l = record { selects = f.selects; encoders = f.encoders; pwms = l; i2cs = f.i2cs }
 
 module _ (s : List ℕ) (f : Flat) where
-  abbrev pub encoders-to : ℕ → Flat
-  encoders-to i = flat-encoders f (loaded 8 (loadWord encoderOf) s 64 i f.encoders)
+  abbrev pub encoders_to : ℕ → Flat
+  encoders_to i = flat_encoders f (loaded 8 (load_word encoder_of) s 64 i f.encoders)
 
-  pub encoders-none : f ≡ encoders-to 0
-  encoders-none = ap (flat-encoders f) (loaded-none 8 (loadWord encoderOf) s 64 f.encoders)
+  pub encoders_none : f ≡ encoders_to 0
+  encoders_none = ap (flat_encoders f) (loaded_none 8 (load_word encoder_of) s 64 f.encoders)
 
-  abbrev pub pwms-to : ℕ → Flat
-  pwms-to i = flat-pwms f (loaded 16 loadPwm s 224 i f.pwms)
+  abbrev pub pwms_to : ℕ → Flat
+  pwms_to i = flat_pwms f (loaded 16 load_pwm s 224 i f.pwms)
 
-  pub pwms-none : f ≡ pwms-to 0
-  pwms-none = ap (flat-pwms f) (loaded-none 16 loadPwm s 224 f.pwms)
+  pub pwms_none : f ≡ pwms_to 0
+  pwms_none = ap (flat_pwms f) (loaded_none 16 load_pwm s 224 f.pwms)
 
-  module _ {Y : Type 0} (g : Encoder → Y) (known : length (map g f.encoders) ≡ 20) (x : Flat) (i : ℕ) (here : x ≡ encoders-to i) where
-    pub encoders-next : (v : ℕ) (e : Encoder) → i < 20 → v ≡ le_of 8 s (64 + 8 * i) → e ≡ encoderOf v → flat-encoders x (set x.encoders i e) ≡ encoders-to (i + 1)
-    encoders-next v e h p q =
-        rw (q, p, here) (ap (flat-encoders f) (loaded-more 8 (loadWord encoderOf) s 64 f.encoders i (omega (arith, long-field _ _ g f.encoders 20 known))))
+  module _ {Y : Type 0} (g : Encoder → Y) (known : length (map g f.encoders) ≡ 20) (x : Flat) (i : ℕ) (here : x ≡ encoders_to i) where
+    pub encoders_next : (v : ℕ) (e : Encoder) → i < 20 → v ≡ le_of 8 s (64 + 8 * i) → e ≡ encoder_of v → flat_encoders x (set x.encoders i e) ≡ encoders_to (i + 1)
+    encoders_next v e h p q =
+        rw (q, p, here) (ap (flat_encoders f) (loaded_more 8 (load_word encoder_of) s 64 f.encoders i (omega (arith, long_field _ _ g f.encoders 20 known))))
 
-    pub encoders-all : i ≤ 20 → 20 ≤ i → x ≡ withEncoders f s
-    unfolding withEncoders
-    encoders-all h k = here ∙ ap (flat-encoders f) (loaded-all 8 (loadWord encoderOf) s 64 f.encoders i 20 (long-field _ _ g f.encoders 20 known) h k)
+    pub encoders_all : i ≤ 20 → 20 ≤ i → x ≡ with_encoders f s
+    unfolding with_encoders
+    encoders_all h k = here ∙ ap (flat_encoders f) (loaded_all 8 (load_word encoder_of) s 64 f.encoders i 20 (long_field _ _ g f.encoders 20 known) h k)
 
-  module _ {Y : Type 0} (g : Pwm → Y) (known : length (map g f.pwms) ≡ 40) (x : Flat) (i : ℕ) (here : x ≡ pwms-to i) where
-    pub pwms-next : (v w : ℕ) (p : Pwm) → i < 40 → v ≡ le_of 8 s (224 + 16 * i) → w ≡ le_of 8 s (232 + 16 * i) → p ≡ pwmOf v w
-        → flat-pwms x (set x.pwms i p) ≡ pwms-to (i + 1)
-    pwms-next v w p h a b q =
+  module _ {Y : Type 0} (g : Pwm → Y) (known : length (map g f.pwms) ≡ 40) (x : Flat) (i : ℕ) (here : x ≡ pwms_to i) where
+    pub pwms_next : (v w : ℕ) (p : Pwm) → i < 40 → v ≡ le_of 8 s (224 + 16 * i) → w ≡ le_of 8 s (232 + 16 * i) → p ≡ pwm_of v w
+        → flat_pwms x (set x.pwms i p) ≡ pwms_to (i + 1)
+    pwms_next v w p h a b q =
         let e : 232 + 16 * i ≡ 224 + 16 * i + 8 = omega arith in
-        rw (q, a, b, e, here) (ap (flat-pwms f) (loaded-more 16 loadPwm s 224 f.pwms i (omega (arith, long-field _ _ g f.pwms 40 known))))
+        rw (q, a, b, e, here) (ap (flat_pwms f) (loaded_more 16 load_pwm s 224 f.pwms i (omega (arith, long_field _ _ g f.pwms 40 known))))
 
-    pub pwms-all : i ≤ 40 → 40 ≤ i → x ≡ withPwms f s
-    unfolding withPwms
-    pwms-all h k = here ∙ ap (flat-pwms f) (loaded-all 16 loadPwm s 224 f.pwms i 40 (long-field _ _ g f.pwms 40 known) h k)
+    pub pwms_all : i ≤ 40 → 40 ≤ i → x ≡ with_pwms f s
+    unfolding with_pwms
+    pwms_all h k = here ∙ ap (flat_pwms f) (loaded_all 16 load_pwm s 224 f.pwms i 40 (long_field _ _ g f.pwms 40 known) h k)
 
 module _ (s l : List ℕ) where
-  abbrev pub bytes-to : ℕ → List ℕ
-  bytes-to i = loaded 1 byte s 16 i l
+  abbrev pub bytes_to : ℕ → List ℕ
+  bytes_to i = loaded 1 byte s 16 i l
 
-  pub bytes-none : l ≡ bytes-to 0
-  bytes-none = loaded-none 1 byte s 16 l
+  pub bytes_none : l ≡ bytes_to 0
+  bytes_none = loaded_none 1 byte s 16 l
 
-  module _ (known : length l ≡ 16) (x : List ℕ) (i : ℕ) (here : x ≡ bytes-to i) where
-    pub bytes_next : i < 16 → set x i (byte s (16 + i)) ≡ bytes-to (i + 1)
+  module _ (known : length l ≡ 16) (x : List ℕ) (i : ℕ) (here : x ≡ bytes_to i) where
+    pub bytes_next : i < 16 → set x i (byte s (16 + i)) ≡ bytes_to (i + 1)
     bytes_next h =
         let e : 16 + i ≡ 16 + 1 * i = omega arith in
-        rw (here, e) (loaded-more 1 byte s 16 l i (omega arith))
+        rw (here, e) (loaded_more 1 byte s 16 l i (omega arith))
 
-    pub bytes-all : i ≤ 16 → 16 ≤ i → x ≡ loadMany 1 byte 16 s 16
-    bytes-all h k = here ∙ loaded-all 1 byte s 16 l i 16 known h k
+    pub bytes_all : i ≤ 16 → 16 ≤ i → x ≡ load_many 1 byte 16 s 16
+    bytes_all h k = here ∙ loaded_all 1 byte s 16 l i 16 known h k
 
 -- ---- saving
 
-pub same-long : (out₀ out xs : List ℕ) (at : ℕ) → out ≡ sets out₀ at xs → length out ≡ length out₀
-same-long out₀ out xs at e = ap length e ∙ length-sets out₀ at xs
+pub same_long : (out₀ out xs : List ℕ) (at : ℕ) → out ≡ sets out₀ at xs → length out ≡ length out₀
+same_long out₀ out xs at e = ap length e ∙ length-sets out₀ at xs
 
 module _ (out₀ out xs : List ℕ) (at : ℕ) (e : out ≡ sets out₀ at xs) (room : 864 ≤ length out₀) (i : ℕ) where
-  pub room-carried : i < 16 → 16 + i < length out
-  room-carried h = omega (arith, same-long out₀ out xs at e)
+  pub room_carried : i < 16 → 16 + i < length out
+  room_carried h = omega (arith, same_long out₀ out xs at e)
 
-  pub room-encoders : i < 20 → 64 + 8 * i + 8 ≤ length out
-  room-encoders h = omega (arith, same-long out₀ out xs at e)
+  pub room_encoders : i < 20 → 64 + 8 * i + 8 ≤ length out
+  room_encoders h = omega (arith, same_long out₀ out xs at e)
 
-  pub room-pwms : i < 40 → 224 + 16 * i + 16 ≤ length out
-  room-pwms h = omega (arith, same-long out₀ out xs at e)
+  pub room_pwms : i < 40 → 224 + 16 * i + 16 ≤ length out
+  room_pwms h = omega (arith, same_long out₀ out xs at e)
 
 -- a byte after the other
 module _ (out₀ l : List ℕ) where
-  abbrev pub carried-in : ℕ → List ℕ
-  carried-in i = sets out₀ 16 (take i l)
+  abbrev pub carried_in : ℕ → List ℕ
+  carried_in i = sets out₀ 16 (take i l)
 
-  pub carried-out : out₀ ≡ carried-in 0
-  carried-out = refl
+  pub carried_out : out₀ ≡ carried_in 0
+  carried_out = refl
 
-  module _ (known : length l ≡ 16) (out : List ℕ) (i : ℕ) (here : out ≡ carried-in i) where
-    pub carried_on : i < 16 → set out (16 + i) (byte l i) ≡ carried-in (i + 1)
+  module _ (known : length l ≡ 16) (out : List ℕ) (i : ℕ) (here : out ≡ carried_in i) where
+    pub carried_on : i < 16 → set out (16 + i) (byte l i) ≡ carried_in (i + 1)
     carried_on h =
         let long : length (take i l) ≡ i = length-take-le i l (omega arith) in
-        rw (here, add-one i, take-suc l i 0 (omega arith)) (sets-append out₀ (take i l) (byte l i ∷ []) 16 i long)
+        rw (here, add-one i, take-suc l i 0 (omega arith)) (sets_append out₀ (take i l) (byte l i ∷ []) 16 i long)
 
-    pub carried-done : i ≤ 16 → 16 ≤ i → out ≡ sets out₀ 16 l
-    carried-done h k = here ∙ ap (sets out₀ 16) (take_all i l (omega arith))
+    pub carried_done : i ≤ 16 → 16 ≤ i → out ≡ sets out₀ 16 l
+    carried_done h k = here ∙ ap (sets out₀ 16) (take_all i l (omega arith))
 
 module _ (out₀ : List ℕ) (l : List Encoder) where
-  abbrev pub encoders-in : ℕ → List ℕ
-  encoders-in i = saved 8 (saveWord lowNumber) (λ x. refl) out₀ 64 i l
+  abbrev pub encoders_in : ℕ → List ℕ
+  encoders_in i = saved 8 (save_word low_number) (λ x. refl) out₀ 64 i l
 
-  pub encoders-out : out₀ ≡ encoders-in 0
-  encoders-out = saved-none 8 (saveWord lowNumber) (λ x. refl) out₀ 64 l
+  pub encoders_out : out₀ ≡ encoders_in 0
+  encoders_out = saved_none 8 (save_word low_number) (λ x. refl) out₀ 64 l
 
   module _ (encoders-long : length l ≡ 20) where
-    module _ (out : List ℕ) (i : ℕ) (here : out ≡ encoders-in i) where
-      pub encoders-on : (d : Encoder) (v : ℕ) (out' : List ℕ) → i < 20 → v ≡ lowNumber (get_or l i d) → out' ≡ sets out (64 + 8 * i) (le_bytes 8 v) → out' ≡ encoders-in (i + 1)
-      encoders-on d v out' h p q = q ∙ rw (p, here) (saved-more 8 (saveWord lowNumber) (λ x. refl) out₀ 64 l i d (omega (arith, encoders-long)))
+    module _ (out : List ℕ) (i : ℕ) (here : out ≡ encoders_in i) where
+      pub encoders_on : (d : Encoder) (v : ℕ) (out' : List ℕ) → i < 20 → v ≡ low_number (get_or l i d) → out' ≡ sets out (64 + 8 * i) (le_bytes 8 v) → out' ≡ encoders_in (i + 1)
+      encoders_on d v out' h p q = q ∙ rw (p, here) (saved_more 8 (save_word low_number) (λ x. refl) out₀ 64 l i d (omega (arith, encoders-long)))
 
-      pub encoders-done : i ≤ 20 → 20 ≤ i → out ≡ sets out₀ 64 (saveMany (saveWord lowNumber) l)
-      encoders-done h k = here ∙ saved-all 8 (saveWord lowNumber) (λ x. refl) out₀ 64 l i 20 encoders-long h k
+      pub encoders_done : i ≤ 20 → 20 ≤ i → out ≡ sets out₀ 64 (save_many (save_word low_number) l)
+      encoders_done h k = here ∙ saved_all 8 (save_word low_number) (λ x. refl) out₀ 64 l i 20 encoders-long h k
 
 module _ (out₀ : List ℕ) (l : List Pwm) where
-  abbrev pub pwms-in : ℕ → List ℕ
-  pwms-in i = saved 16 savePwm (λ x. refl) out₀ 224 i l
+  abbrev pub pwms_in : ℕ → List ℕ
+  pwms_in i = saved 16 save_pwm (λ x. refl) out₀ 224 i l
 
-  pub pwms-out : out₀ ≡ pwms-in 0
-  pwms-out = saved-none 16 savePwm (λ x. refl) out₀ 224 l
+  pub pwms_out : out₀ ≡ pwms_in 0
+  pwms_out = saved_none 16 save_pwm (λ x. refl) out₀ 224 l
 
   module _ (pwms-long : length l ≡ 40) where
-    module _ (out : List ℕ) (i : ℕ) (here : out ≡ pwms-in i) where
-      pub pwms-on : (d : Pwm) (out' : List ℕ) → i < 40 → out' ≡ sets out (224 + 16 * i) (savePwm (get_or l i d)) → out' ≡ pwms-in (i + 1)
-      pwms-on d out' h q = q ∙ rw here (saved-more 16 savePwm (λ x. refl) out₀ 224 l i d (omega (arith, pwms-long)))
+    module _ (out : List ℕ) (i : ℕ) (here : out ≡ pwms_in i) where
+      pub pwms_on : (d : Pwm) (out' : List ℕ) → i < 40 → out' ≡ sets out (224 + 16 * i) (save_pwm (get_or l i d)) → out' ≡ pwms_in (i + 1)
+      pwms_on d out' h q = q ∙ rw here (saved_more 16 save_pwm (λ x. refl) out₀ 224 l i d (omega (arith, pwms-long)))
 
-      pub pwms-done : i ≤ 40 → 40 ≤ i → out ≡ sets out₀ 224 (saveMany savePwm l)
-      pwms-done h k = here ∙ saved-all 16 savePwm (λ x. refl) out₀ 224 l i 40 pwms-long h k
+      pub pwms_done : i ≤ 40 → 40 ≤ i → out ≡ sets out₀ 224 (save_many save_pwm l)
+      pwms_done h k = here ∙ saved_all 16 save_pwm (λ x. refl) out₀ 224 l i 40 pwms-long h k
 
 -- two words in a row
-pub pwm-put : (p : Pwm) (at v w : ℕ) (o₀ o₁ o₂ : List ℕ) → v ≡ registersNumber p.registers → w ≡ waveNumber p.wave → o₁ ≡ sets o₀ at (le_bytes 8 v) → o₂ ≡ sets o₁ (at + 8) (le_bytes 8 w) → o₂ ≡ sets o₀ at (savePwm p)
-pwm-put p at v w o₀ o₁ o₂ a b e f = f ∙ rw (e, a, b) (sets-append o₀ (le_bytes 8 (registersNumber p.registers)) (le_bytes 8 (waveNumber p.wave)) at 8 refl)
+pub pwm_put : (p : Pwm) (at v w : ℕ) (o₀ o₁ o₂ : List ℕ) → v ≡ registers_number p.registers → w ≡ wave_number p.wave → o₁ ≡ sets o₀ at (le_bytes 8 v) → o₂ ≡ sets o₁ (at + 8) (le_bytes 8 w) → o₂ ≡ sets o₀ at (save_pwm p)
+pwm_put p at v w o₀ o₁ o₂ a b e f = f ∙ rw (e, a, b) (sets_append o₀ (le_bytes 8 (registers_number p.registers)) (le_bytes 8 (wave_number p.wave)) at 8 refl)
 
 -- two elements in a row
 module _ {X : Type 0} (save : X → List ℕ) where
-  pub two : (l : List X) (d : X) → length l ≡ 2 → saveMany save l ≡ save (get_or l 0 d) ++ save (get_or l 1 d)
-  unfolding saveMany
+  pub two : (l : List X) (d : X) → length l ≡ 2 → save_many save l ≡ save (get_or l 0 d) ++ save (get_or l 1 d)
+  unfolding save_many
   two [] d h = absurd (omega (arith, h))
   two (x ∷ []) d h = absurd (omega (arith, h))
   two (x ∷ y ∷ []) d h = ap (λ (t : List ℕ). save x ++ t) (append-nil (save y))
   two (x ∷ y ∷ z ∷ l) d h = absurd (omega (arith, h))
 
-four-puts : (o₀ o₁ o₂ o₃ o₄ a b c d : List ℕ) → o₁ ≡ sets o₀ 32 a → o₂ ≡ sets o₁ 40 b → o₃ ≡ sets o₂ 48 c → o₄ ≡ sets o₃ 56 d → length a ≡ 8 → length b ≡ 8 → length c ≡ 8
+four_puts : (o₀ o₁ o₂ o₃ o₄ a b c d : List ℕ) → o₁ ≡ sets o₀ 32 a → o₂ ≡ sets o₁ 40 b → o₃ ≡ sets o₂ 48 c → o₄ ≡ sets o₃ 56 d → length a ≡ 8 → length b ≡ 8 → length c ≡ 8
     → o₄ ≡ sets o₀ 32 ((a ++ b) ++ (c ++ d))
-four-puts o₀ o₁ o₂ o₃ o₄ a b c d p₁ p₂ p₃ p₄ ha hb hc =
+four_puts o₀ o₁ o₂ o₃ o₄ a b c d p₁ p₂ p₃ p₄ ha hb hc =
     p₄
     ∙ rw (p₃, p₂, p₁)
-    (sets-append (sets (sets o₀ 32 a) 40 b) c d 48 8 hc
-    ∙ sets-append (sets o₀ 32 a) b (c ++ d) 40 8 hb
-    ∙ sets-append o₀ a (b ++ (c ++ d)) 32 8 ha
+    (sets_append (sets (sets o₀ 32 a) 40 b) c d 48 8 hc
+    ∙ sets_append (sets o₀ 32 a) b (c ++ d) 40 8 hb
+    ∙ sets_append o₀ a (b ++ (c ++ d)) 32 8 ha
     ∙ ap (sets o₀ 32) (sym (append_assoc a b (c ++ d))))
 
 module _ (f : Flat) (selects-long : length f.selects ≡ 2) (i2cs-long : length f.i2cs ≡ 2) where
-  pub firsts-put : (d : I2c) (v w : ℕ) (o₀ o₁ o₂ o₃ o₄ : List ℕ) → o₁ ≡ sets o₀ 32 (le_bytes 8 (get_or f.selects 0 0)) → o₂ ≡ sets o₁ 40 (le_bytes 8 (get_or f.selects 1 0))
-      → v ≡ i2cNumber (get_or f.i2cs 0 d) → o₃ ≡ sets o₂ 48 (le_bytes 8 v) → w ≡ i2cNumber (get_or f.i2cs 1 d) → o₄ ≡ sets o₃ 56 (le_bytes 8 w)
-      → o₄ ≡ sets o₀ 32 (saveMany (le_bytes 8) f.selects ++ saveMany (saveWord i2cNumber) f.i2cs)
-  firsts-put d v w o₀ o₁ o₂ o₃ o₄ a b p c q e =
-      four-puts o₀ o₁ o₂ o₃ o₄ (le_bytes 8 (get_or f.selects 0 0)) (le_bytes 8 (get_or f.selects 1 0)) (le_bytes 8 (i2cNumber (get_or f.i2cs 0 d))) (le_bytes 8 (i2cNumber (get_or f.i2cs 1 d))) a b
+  pub firsts_put : (d : I2c) (v w : ℕ) (o₀ o₁ o₂ o₃ o₄ : List ℕ) → o₁ ≡ sets o₀ 32 (le_bytes 8 (get_or f.selects 0 0)) → o₂ ≡ sets o₁ 40 (le_bytes 8 (get_or f.selects 1 0))
+      → v ≡ i2c_number (get_or f.i2cs 0 d) → o₃ ≡ sets o₂ 48 (le_bytes 8 v) → w ≡ i2c_number (get_or f.i2cs 1 d) → o₄ ≡ sets o₃ 56 (le_bytes 8 w)
+      → o₄ ≡ sets o₀ 32 (save_many (le_bytes 8) f.selects ++ save_many (save_word i2c_number) f.i2cs)
+  firsts_put d v w o₀ o₁ o₂ o₃ o₄ a b p c q e =
+      four_puts o₀ o₁ o₂ o₃ o₄ (le_bytes 8 (get_or f.selects 0 0)) (le_bytes 8 (get_or f.selects 1 0)) (le_bytes 8 (i2c_number (get_or f.i2cs 0 d))) (le_bytes 8 (i2c_number (get_or f.i2cs 1 d))) a b
       (c ∙ ap (λ (n : ℕ). sets o₂ 48 (le_bytes 8 n)) p)
       (e ∙ ap (λ (n : ℕ). sets o₃ 56 (le_bytes 8 n)) q)
       refl refl refl
-      ∙ (λ i. sets o₀ 32 (sym (two (le_bytes 8) f.selects 0 selects-long) i ++ sym (two (saveWord i2cNumber) f.i2cs d i2cs-long) i))
+      ∙ (λ i. sets o₀ 32 (sym (two (le_bytes 8) f.selects 0 selects-long) i ++ sym (two (save_word i2c_number) f.i2cs d i2cs-long) i))

@@ -2,12 +2,12 @@
 ghost use Rattle.std.specs.Prelude.{◌≡◌, true, ◌++◌, ◌+◌, ◌<◌, ◌≤◌, length, drop};
 ghost use Rattle.std.proofs.lemmas.List.Edits.{sets};
 ghost use Rattle.numbers.specs.Bytes.{byte};
-ghost use Rattle.codec.specs.How.{saveWord, saveMany, loadMany};
+ghost use Rattle.codec.specs.How.{save_word, save_many, load_many};
 ghost use Rattle.live_state.specs.How.{live_of};
 ghost use Rattle.numbers.specs.Bytes.{le_bytes};
-ghost use Rattle.image_words.specs.How.{i2cNumber, lowNumber};
+ghost use Rattle.image_words.specs.How.{i2c_number, low_number};
 ghost use Rattle.image_state.specs.Image.{size, image_of};
-ghost use Rattle.image_state.specs.How.{headNumber, savePwm, isState, withEncoders, withPwms, flatOf, Loads, Saves};
+ghost use Rattle.image_state.specs.How.{head_number, save_pwm, is_state, with_encoders, with_pwms, flat_of, Loads, Saves};
 
 use banks::Flat;
 use encoder::Encoder;
@@ -21,7 +21,7 @@ use pwm::Pwm;
 
 fn load_encoders(s: &[u8], f: Flat) -> Flat
     requires { size ≤ length s.now }
-    ensures { result ≡ withEncoders f s.now }
+    ensures { result ≡ with_encoders f s.now }
 {
     let mut g = f;
     for i in 0..20 {
@@ -32,7 +32,7 @@ fn load_encoders(s: &[u8], f: Flat) -> Flat
 
 fn load_pwms(s: &[u8], f: Flat) -> Flat
     requires { size ≤ length s.now }
-    ensures { result ≡ withPwms f s.now }
+    ensures { result ≡ with_pwms f s.now }
 {
     let mut g = f;
     for i in 0..40 {
@@ -43,7 +43,7 @@ fn load_pwms(s: &[u8], f: Flat) -> Flat
 
 fn load_flat(s: &[u8]) -> Flat
     requires { size ≤ length s.now }
-    ensures { result ≡ flatOf s.now }
+    ensures { result ≡ flat_of s.now }
 {
     let e = Encoder::fresh();
     let p = Pwm::fresh();
@@ -60,7 +60,7 @@ fn load_flat(s: &[u8]) -> Flat
 
 fn load_carried(s: &[u8]) -> [u8; 16]
     requires { size ≤ length s.now }
-    ensures { result ≡ loadMany 1 byte 16 s.now 16 }
+    ensures { result ≡ load_many 1 byte 16 s.now 16 }
 {
     let mut a = [0u8; 16];
     for i in 0..16 {
@@ -70,7 +70,7 @@ fn load_carried(s: &[u8]) -> [u8; 16]
 }
 
 pub fn load(s: &[u8]) -> Stream
-    requires { isState s.now ≡ true }
+    requires { is_state s.now ≡ true }
     ensures { Loads s.now result }
 {
     let head = le64(s, 0);
@@ -88,7 +88,7 @@ pub fn load(s: &[u8]) -> Stream
 
 fn head_number(refused: u8, held: usize, edition: u64) -> u64
     requires { (held < 16) × (edition < 5) }
-    ensures { result ≡ headNumber refused held edition }
+    ensures { result ≡ head_number refused held edition }
 {
     refused as u64 + 256 * (held as u64) + 65536 * edition
 }
@@ -106,7 +106,7 @@ fn save_carried(a: [u8; 16], out: &mut [u8])
 // SELECT and the I2C of each bank.
 fn save_firsts(f: Flat, out: &mut [u8])
     requires { size ≤ length out.old }
-    ensures out_after { out.new ≡ sets out.old 32 (saveMany (le_bytes 8) f.selects ++ saveMany (saveWord i2cNumber) f.i2cs) }
+    ensures out_after { out.new ≡ sets out.old 32 (save_many (le_bytes 8) f.selects ++ save_many (save_word i2c_number) f.i2cs) }
     ensures selects_len { length f.selects ≡ 2 }
     ensures i2cs_len { length f.i2cs ≡ 2 }
 {
@@ -120,7 +120,7 @@ fn save_firsts(f: Flat, out: &mut [u8])
 
 fn save_encoders(encoders: [Encoder; 20], out: &mut [u8])
     requires { size ≤ length out.old }
-    ensures out_after { out.new ≡ sets out.old 64 (saveMany (saveWord lowNumber) encoders) }
+    ensures out_after { out.new ≡ sets out.old 64 (save_many (save_word low_number) encoders) }
     ensures encoders_len { length encoders ≡ 20 }
 {
     for i in 0..20 {
@@ -131,7 +131,7 @@ fn save_encoders(encoders: [Encoder; 20], out: &mut [u8])
 
 fn put_pwm(p: Pwm, at: usize, out: &mut [u8])
     requires { at + 16 ≤ length out.old }
-    ensures { out.new ≡ sets out.old at (savePwm p) }
+    ensures { out.new ≡ sets out.old at (save_pwm p) }
 {
     let g = p.registers;
     let w = p.wave;
@@ -141,7 +141,7 @@ fn put_pwm(p: Pwm, at: usize, out: &mut [u8])
 
 fn save_pwms(pwms: [Pwm; 40], out: &mut [u8])
     requires { size ≤ length out.old }
-    ensures out_after { out.new ≡ sets out.old 224 (saveMany savePwm pwms) }
+    ensures out_after { out.new ≡ sets out.old 224 (save_many save_pwm pwms) }
     ensures pwms_len { length pwms ≡ 40 }
 {
     for i in 0..40 {

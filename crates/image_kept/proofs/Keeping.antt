@@ -9,97 +9,97 @@ use native.Mathlib.Omega.{arith}
 use lib.Dec.{eqb}
 use lib.ListN.{length-set}
 use borrow.Author.Tests.{eqb-true, eqb-false, le-leb, ne_eqb}
-use Rattle.laws.proofs.Each.{length-each, each_keeps, set_keeps, fresh_keeps}
+use Rattle.laws.proofs.Each.{length_each, each_keeps, set_keeps, fresh_keeps}
 use Rattle.fold.specs.Turn.{Turn, goes, refused, leaves}
 use Rattle.fold.specs.Run.{Course, going, stopped, run_of}
 use Rattle.fold.specs.Output.{number_of}
 use Rattle.fold.proofs.Laws.{keeps, stopped_by}
 use Rattle.edition.specs.declared.Edition.{Edition}
-use Rattle.wire.specs.Decode.{bankOf}
+use Rattle.wire.specs.Decode.{bank_of}
 use Rattle.records.specs.declared.Record.{Record}
 use Rattle.records.specs.declared.Record.TheVariants.{WriteSelect, WriteEncoder, WritePwm, WriteI2c, Answer, ReadSelect, ReadEncoder, ReadPwm, ReadI2c, Pins, Ticks}
-use Rattle.wire.proofs.Formed.{Formed, formed, bank-formed, refused-by}
+use Rattle.wire.proofs.Formed.{Formed, formed, bank_formed, refused_by_lem}
 use Rattle.encoder.specs.declared.Encoder.{Encoder}
 use Rattle.encoder.specs.Encoder as encoder
 use Rattle.pwm.specs.declared.Pwm.{Pwm}
 use Rattle.pwm.specs.Pwm as pwm
 use Rattle.i2c.specs.declared.I2c.{I2c}
-use Rattle.select.specs.Select.{encoderRouted, pwmRouted}
+use Rattle.select.specs.Select.{encoder_routed, pwm_routed}
 use Rattle.bank.specs.declared.Bank.{Bank}
 use Rattle.bank.specs.Bank as bank
-use Rattle.bank.specs.Bank.{encoderAt, withEncoder, pwmAt, withPwm, withI2c, reroute, tickRouted}
-use Rattle.refusals.specs.How.{refusalOf}
-use Rattle.bank.proofs.Turns.{passing, Number, turn-passes, turn-refused, turn-number}
+use Rattle.bank.specs.Bank.{encoder_at, with_encoder, pwm_at, with_pwm, with_i2c, reroute, tick_routed}
+use Rattle.refusals.specs.How.{refusal_of}
+use Rattle.bank.proofs.Turns.{passing, Number, turn_passes, turn_refused, turn_number}
 use Rattle.banks.specs.declared.State.{State}
-use Rattle.banks.specs.State.{fresh, bankAt, withBank}
-use Rattle.banks.proofs.Whole.{Both, holds-first, holds-one, holds-both}
+use Rattle.banks.specs.State.{fresh, bank_at, with_bank}
+use Rattle.banks.proofs.Whole.{Both, holds_first, holds_one, holds_both}
 use Rattle.walk.specs.Turn.{turn_of}
-use Rattle.fold.proofs.Turns.{lift-refused}
+use Rattle.fold.proofs.Turns.{lift_refused}
 use Rattle.walk.proofs.Replaying.{by_turn}
 use Rattle.image_words.specs.Words.{FitsI2c, FitsEncoder}
 use Rattle.image_pwm.specs.Words.{FitsPwm}
 use Rattle.image_state.specs.Image.{FitsBank}
-use Rattle.image_state.specs.How.{isRefusal, FitsState}
-use Rattle.image_kept.proofs.Blocks.{fresh-encoder, on-select, on-cnfg, on-pins, fresh-pwm, on-write, on-ticks, fresh-i2c, on-i2c, on-answer}
+use Rattle.image_state.specs.How.{is_refusal, FitsState}
+use Rattle.image_kept.proofs.Blocks.{fresh_encoder, on_select_lem, on_cnfg_lem, on_pins_lem, fresh_pwm, on_write_lem, on_ticks_lem, fresh_i2c, on_i2c, on_answer_lem}
 
 -- ---- one bank
 
-one-encoder : (i : ℕ) (b : Bank) (e : Encoder) → FitsEncoder e → FitsBank b → FitsBank (withEncoder i b e)
-one-encoder i b e g f = record {
+one_encoder : (i : ℕ) (b : Bank) (e : Encoder) → FitsEncoder e → FitsBank b → FitsBank (with_encoder i b e)
+one_encoder i b e g f = record {
   select = f.select;
   i2c = f.i2c;
   encoders = (length-set b.encoders i e ∙ f.encoders.0, set_keeps FitsEncoder encoder.fresh b.encoders i e g f.encoders.1);
   pwms = f.pwms;
 }
 
-one-pwm : (i : ℕ) (b : Bank) (p : Pwm) → FitsPwm p → FitsBank b → FitsBank (withPwm i b p)
-one-pwm i b p g f = record {
+one_pwm : (i : ℕ) (b : Bank) (p : Pwm) → FitsPwm p → FitsBank b → FitsBank (with_pwm i b p)
+one_pwm i b p g f = record {
   select = f.select;
   i2c = f.i2c;
   encoders = f.encoders;
   pwms = (length-set b.pwms i p ∙ f.pwms.0, set_keeps FitsPwm pwm.fresh b.pwms i p g f.pwms.1);
 }
 
-the-i2c : (b : Bank) (c : I2c) → FitsI2c c → FitsBank b → FitsBank (withI2c b c)
-the-i2c b c g f = record { select = f.select; i2c = g; encoders = f.encoders; pwms = f.pwms }
+the_i2c : (b : Bank) (c : I2c) → FitsI2c c → FitsBank b → FitsBank (with_i2c b c)
+the_i2c b c g f = record { select = f.select; i2c = g; encoders = f.encoders; pwms = f.pwms }
 
 passes : (e : Edition) (b : Bank) (s : List ℕ) (r : Record) → Formed s r → FitsBank b → FitsBank (leaves b (passing e b r))
 passes e b s (WriteSelect v) m f = record {
   select = m.1;
   i2c = f.i2c;
-  encoders = (length-each (reroute e.port b.select v) 0 b.encoders ∙ f.encoders.0, each_keeps FitsEncoder encoder.fresh (reroute e.port b.select v) (λ i x. on-select (encoderRouted e.port b.select i) (encoderRouted e.port v i) x) 0 b.encoders f.encoders.1);
+  encoders = (length_each (reroute e.port b.select v) 0 b.encoders ∙ f.encoders.0, each_keeps FitsEncoder encoder.fresh (reroute e.port b.select v) (λ i x. on_select_lem (encoder_routed e.port b.select i) (encoder_routed e.port v i) x) 0 b.encoders f.encoders.1);
   pwms = f.pwms;
 }
-passes e b s (WriteEncoder i v) m f = one-encoder i b _ (on-cnfg v (encoderAt i b) m.2 (f.encoders.1 i)) f
-passes e b s (Pins i v) m f = one-encoder i b _ (on-pins v (encoderAt i b) m.2 (f.encoders.1 i)) f
-passes e b s (WritePwm i g v) m f = one-pwm i b _ (on-write g v (pwmAt i b) m.2 m.3 (f.pwms.1 i)) f
-passes e b s (WriteI2c g v) m f = the-i2c b _ (on-i2c g v b.i2c m.1 m.2 f.i2c) f
-passes e b s (Answer v) m f = the-i2c b _ (on-answer v b.i2c m.1 f.i2c) f
+passes e b s (WriteEncoder i v) m f = one_encoder i b _ (on_cnfg_lem v (encoder_at i b) m.2 (f.encoders.1 i)) f
+passes e b s (Pins i v) m f = one_encoder i b _ (on_pins_lem v (encoder_at i b) m.2 (f.encoders.1 i)) f
+passes e b s (WritePwm i g v) m f = one_pwm i b _ (on_write_lem g v (pwm_at i b) m.2 m.3 (f.pwms.1 i)) f
+passes e b s (WriteI2c g v) m f = the_i2c b _ (on_i2c g v b.i2c m.1 m.2 f.i2c) f
+passes e b s (Answer v) m f = the_i2c b _ (on_answer_lem v b.i2c m.1 f.i2c) f
 passes e b s (Ticks t) m f = record {
   select = f.select;
   i2c = f.i2c;
   encoders = f.encoders;
-  pwms = (length-each (tickRouted e b.select t) 0 b.pwms ∙ f.pwms.0, each_keeps FitsPwm pwm.fresh (tickRouted e b.select t) (λ i p. on-ticks e.runs (pwmRouted e.port b.select i) t p) 0 b.pwms f.pwms.1);
+  pwms = (length_each (tick_routed e b.select t) 0 b.pwms ∙ f.pwms.0, each_keeps FitsPwm pwm.fresh (tick_routed e b.select t) (λ i p. on_ticks_lem e.runs (pwm_routed e.port b.select i) t p) 0 b.pwms f.pwms.1);
 }
 passes e b s ReadSelect m f = f
 passes e b s (ReadEncoder i g) m f = f
 passes e b s (ReadPwm i g) m f = f
 passes e b s (ReadI2c g) m f = f
 
-bank-kept : (e : Edition) (b : Bank) (s : List ℕ) (r : Record) → Formed s r → FitsBank b → FitsBank (leaves b (bank.turn_of e b r))
-bank-kept e b s r m f = by (eqb (refusalOf e b.select b.i2c r) 0) refl
+bank_kept : (e : Edition) (b : Bank) (s : List ℕ) (r : Record) → Formed s r → FitsBank b → FitsBank (leaves b (bank.turn_of e b r))
+bank_kept e b s r m f = by (eqb (refusal_of e b.select b.i2c r) 0) refl
   where
-    by : (t : Bool) → eqb (refusalOf e b.select b.i2c r) 0 ≡ t → FitsBank (leaves b (bank.turn_of e b r))
-    by true p = subst (λ (x : Turn Bank ℕ). FitsBank (leaves b x)) (sym (turn-passes e b r (eqb-true _ _ p))) (passes e b s r m f)
-    by false p = subst (λ (x : Turn Bank ℕ). FitsBank (leaves b x)) (sym (turn-refused e b r (eqb-false _ _ p))) f
+    by : (t : Bool) → eqb (refusal_of e b.select b.i2c r) 0 ≡ t → FitsBank (leaves b (bank.turn_of e b r))
+    by true p = subst (λ (x : Turn Bank ℕ). FitsBank (leaves b x)) (sym (turn_passes e b r (eqb-true _ _ p))) (passes e b s r m f)
+    by false p = subst (λ (x : Turn Bank ℕ). FitsBank (leaves b x)) (sym (turn_refused e b r (eqb-false _ _ p))) f
 
-bank-first : FitsBank bank.fresh
+bank_first : FitsBank bank.fresh
 unfolding bank.fresh
-bank-first = record {
+bank_first = record {
   select = omega arith;
-  i2c = fresh-i2c;
-  encoders = (refl, fresh_keeps FitsEncoder encoder.fresh fresh-encoder 10);
-  pwms = (refl, fresh_keeps FitsPwm pwm.fresh fresh-pwm 20);
+  i2c = fresh_i2c;
+  encoders = (refl, fresh_keeps FitsEncoder encoder.fresh fresh_encoder 10);
+  pwms = (refl, fresh_keeps FitsPwm pwm.fresh fresh_pwm 20);
 }
 
 -- ---- both
@@ -107,49 +107,49 @@ bank-first = record {
 to_both : (s : State) → FitsState s → Both FitsBank s
 to_both s f = record { two = f.0; each = f.1 }
 
-from-both : (s : State) → Both FitsBank s → FitsState s
-from-both s f = (f.two, f.each)
+from_both : (s : State) → Both FitsBank s → FitsState s
+from_both s f = (f.two, f.each)
 
-pub state-first : FitsState fresh
-state-first = from-both fresh (holds-first FitsBank bank-first)
+pub state_first : FitsState fresh
+state_first = from_both fresh (holds_first FitsBank bank_first)
 
-pub turn-kept : (e : Edition) (s : State) (bytes : List ℕ) → FitsState s → FitsState (leaves s (turn_of e s bytes))
-turn-kept e s bytes f =
+pub turn_kept : (e : Edition) (s : State) (bytes : List ℕ) → FitsState s → FitsState (leaves s (turn_of e s bytes))
+turn_kept e s bytes f =
     let w = to_both s f in
-    from-both _
-    (by_turn e s bytes (λ t. Both FitsBank (leaves s t)) (λ n x. w) (λ r x k. holds-both FitsBank (λ b. leaves b (bank.turn_of e b r)) s (λ b. bank-kept e b bytes r (formed e bytes r x)) w)
-    (λ r x k. holds-one FitsBank (bankOf bytes) s (bank.turn_of e (bankAt (bankOf bytes) s) r) (bank-kept e (bankAt (bankOf bytes) s) bytes r (formed e bytes r x) (w.each (bankOf bytes) (bank-formed e bytes r x))) w))
+    from_both _
+    (by_turn e s bytes (λ t. Both FitsBank (leaves s t)) (λ n x. w) (λ r x k. holds_both FitsBank (λ b. leaves b (bank.turn_of e b r)) s (λ b. bank_kept e b bytes r (formed e bytes r x)) w)
+    (λ r x k. holds_one FitsBank (bank_of bytes) s (bank.turn_of e (bank_at (bank_of bytes) s) r) (bank_kept e (bank_at (bank_of bytes) s) bytes r (formed e bytes r x) (w.each (bank_of bytes) (bank_formed e bytes r x))) w))
 
-pub run-kept : (e : Edition) (s : State) (rs : List (List ℕ)) → FitsState s → FitsState (run_of (turn_of e) s rs).state
-run-kept e s rs f = keeps (turn_of e) FitsState (λ t r. turn-kept e t r) s rs f
+pub run_kept : (e : Edition) (s : State) (rs : List (List ℕ)) → FitsState s → FitsState (run_of (turn_of e) s rs).state
+run_kept e s rs f = keeps (turn_of e) FitsState (λ t r. turn_kept e t r) s rs f
 
 -- ---- what stops a run is a refusal of a record
 
 -- 7 to 11, or 16, or 18
-by-range : (n : ℕ) → 6 < n → n < 12 → isRefusal n ≡ true
-by-range n h k = rw (ne_eqb n 0 (λ x. omega arith), le-leb 7 n (omega arith), le-leb n 11 (omega arith))
+by_range : (n : ℕ) → 6 < n → n < 12 → is_refusal n ≡ true
+by_range n h k = rw (ne_eqb n 0 (λ x. omega arith), le-leb 7 n (omega arith), le-leb n 11 (omega arith))
 
-by_number : (n : ℕ) → Number n → isRefusal n ≡ true
-by_number n (inl p) = by-range n (omega (arith, p.0)) p.1
+by_number : (n : ℕ) → Number n → is_refusal n ≡ true
+by_number n (inl p) = by_range n (omega (arith, p.0)) p.1
 by_number n (inr (inl e)) = rw e
 by_number n (inr (inr e)) = rw e
 
-turn-number-is : (e : Edition) (s : State) (bytes : List ℕ) (n : ℕ) → turn_of e s bytes ≡ refused n → isRefusal n ≡ true
-turn-number-is e s bytes n =
-    by_turn e s bytes (λ t. t ≡ refused n → isRefusal n ≡ true)
+turn_number_is : (e : Edition) (s : State) (bytes : List ℕ) (n : ℕ) → turn_of e s bytes ≡ refused n → is_refusal n ≡ true
+turn_number_is e s bytes n =
+    by_turn e s bytes (λ t. t ≡ refused n → is_refusal n ≡ true)
     (λ k x h.
     let same : k ≡ n = cc in
-    let r = refused-by e bytes k x in
-    subst (λ (m : ℕ). isRefusal m ≡ true) same (by-range k r.0 (omega (arith, r.1))))
+    let r = refused_by_lem e bytes k x in
+    subst (λ (m : ℕ). is_refusal m ≡ true) same (by_range k r.0 (omega (arith, r.1))))
     (λ r x k h. by_number n (absurd (never _ n h)))
-    (λ r x k h. by_number n (turn-number e (bankAt (bankOf bytes) s) r n (lift-refused (withBank (bankOf bytes) s) (bank.turn_of e (bankAt (bankOf bytes) s) r) n h)))
+    (λ r x k h. by_number n (turn_number e (bank_at (bank_of bytes) s) r n (lift_refused (with_bank (bank_of bytes) s) (bank.turn_of e (bank_at (bank_of bytes) s) r) n h)))
   where
     never : (t : State) (m : ℕ) → ◌≡◌ {A = Turn State ℕ} (goes t) (refused m) → ⊥
     never t m h = let z : ◌≡◌ {A = ℕ} 0 1 = cc in omega arith
 
-by-course : (c : Course) → ((k : ℕ) → c ≡ stopped k → isRefusal k ≡ true) → isRefusal (number_of c) ≡ true
-by-course going h = refl
-by-course (stopped k) h = h k refl
+by_course : (c : Course) → ((k : ℕ) → c ≡ stopped k → is_refusal k ≡ true) → is_refusal (number_of c) ≡ true
+by_course going h = refl
+by_course (stopped k) h = h k refl
 
-pub run-refusal : (e : Edition) (s : State) (rs : List (List ℕ)) → isRefusal (number_of (run_of (turn_of e) s rs).course) ≡ true
-run-refusal e s rs = by-course (run_of (turn_of e) s rs).course (stopped_by (turn_of e) (λ (k : ℕ). isRefusal k ≡ true) (turn-number-is e) s rs)
+pub run_refusal : (e : Edition) (s : State) (rs : List (List ℕ)) → is_refusal (number_of (run_of (turn_of e) s rs).course) ≡ true
+run_refusal e s rs = by_course (run_of (turn_of e) s rs).course (stopped_by (turn_of e) (λ (k : ℕ). is_refusal k ≡ true) (turn_number_is e) s rs)

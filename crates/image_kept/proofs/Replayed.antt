@@ -7,35 +7,35 @@ use native.Mathlib.Omega.{arith}
 use lib.Dec.{leb}
 use lib.ListN.{length, get_or}
 use Rattle.fold.specs.Run.{halted}
-use Rattle.fold.specs.Output.{over, outputOf}
+use Rattle.fold.specs.Output.{over, output_of}
 use Rattle.edition.specs.declared.Edition.{Edition}
-use Rattle.wire.specs.Decode.{readsIn}
-use Rattle.trailer.specs.Trailer.{trailerOf}
+use Rattle.wire.specs.Decode.{reads_in}
+use Rattle.trailer.specs.Trailer.{trailer_of}
 use Rattle.trailer.specs.declared.Trailer.{Trailer}
 use Rattle.trailer.specs.declared.Trailer.TheVariants.{Found, Refused as NoTrailer}
 use Rattle.banks.specs.State.{fresh}
-use Rattle.replay.specs.Replay.{played, playOf, replayFrom, replayOf}
-use Rattle.replay.proofs.Bytes.{reading-there}
+use Rattle.replay.specs.Replay.{played, play_of, replay_from, replay_of}
+use Rattle.replay.proofs.Bytes.{reading_there}
 use Rattle.image_kept.specs.Facts.{EightBytes}
-use Rattle.image_kept.proofs.Keeping.{state-first}
-use Rattle.image_kept.proofs.Readings.{readings-small}
+use Rattle.image_kept.proofs.Keeping.{state_first}
+use Rattle.image_kept.proofs.Readings.{readings_small}
 
-play-small : (e : Edition) (rs : List (List ℕ)) (room i : ℕ) → get_or (playOf e rs room).readings i 0 < 2 ^ 64
-unfolding playOf
-play-small e rs room i = by (leb (8 * readsIn rs) room)
+play_small : (e : Edition) (rs : List (List ℕ)) (room i : ℕ) → get_or (play_of e rs room).readings i 0 < 2 ^ 64
+unfolding play_of
+play_small e rs room i = by (leb (8 * reads_in rs) room)
   where
     by : (t : Bool) → get_or (cond t (played e rs) (halted fresh 0 [] 6)).readings i 0 < 2 ^ 64
-    by true = readings-small e fresh rs state-first i
+    by true = readings_small e fresh rs state_first i
     by false = omega arith
 
-pub replay-small : (log : List ℕ) (room i : ℕ) → get_or (replayOf log room).readings i 0 < 2 ^ 64
-unfolding replayOf replayFrom
-replay-small log room i = by (trailerOf log)
+pub replay_small : (log : List ℕ) (room i : ℕ) → get_or (replay_of log room).readings i 0 < 2 ^ 64
+unfolding replay_of replay_from
+replay_small log room i = by (trailer_of log)
   where
-    by : (t : Trailer) → get_or (replayFrom t log room).readings i 0 < 2 ^ 64
+    by : (t : Trailer) → get_or (replay_from t log room).readings i 0 < 2 ^ 64
     by (NoTrailer k) = omega arith
-    by (Found a n e) = play-small _ _ room i
+    by (Found a n e) = play_small _ _ room i
 
-pub eight-bytes : EightBytes
-unfolding outputOf over
-eight-bytes log out i h = reading-there (replayOf log (length out)).readings _ i h (omega (arith, replay-small log (length out) i))
+pub eight_bytes : EightBytes
+unfolding output_of over
+eight_bytes log out i h = reading_there (replay_of log (length out)).readings _ i h (omega (arith, replay_small log (length out) i))

@@ -2,36 +2,36 @@
 -- Assumes nothing.
 use Rattle.std.specs.Prelude.{ℕ, ◌+◌, ◌*◌, ◌-◌, ◌/◌, ◌%◌, ◌^◌, Bool, ◌&&◌, eqb, ltb, leb}
 use Rattle.bits.specs.Bits.{bit, num}
-use Rattle.records.specs.Record.{pwmCnfg}
-use Rattle.divider.specs.Divider.{dividerOf}
+use Rattle.records.specs.Record.{pwm_cnfg}
+use Rattle.divider.specs.Divider.{divider_of}
 use Rattle.pwm.specs.declared.Registers.{Registers}
 use Rattle.pwm.specs.declared.Wave.{Wave}
 use Rattle.pwm.specs.declared.Pwm.{Pwm}
 
-unfoldable pub registersNumber : Registers → ℕ
-registersNumber g = g.max + 2 ^ 16 * g.cmp + 2 ^ 32 * g.cnfg + 2 ^ 48 * g.cs
+unfoldable pub registers_number : Registers → ℕ
+registers_number g = g.max + 2 ^ 16 * g.cmp + 2 ^ 32 * g.cnfg + 2 ^ 48 * g.cs
 
-unfoldable pub registersOf : ℕ → Registers
-registersOf v = record { max = v % 2 ^ 16; cmp = v / 2 ^ 16 % 2 ^ 16; cnfg = v / 2 ^ 32 % 2 ^ 16; cs = v / 2 ^ 48 }
+unfoldable pub registers_of : ℕ → Registers
+registers_of v = record { max = v % 2 ^ 16; cmp = v / 2 ^ 16 % 2 ^ 16; cnfg = v / 2 ^ 32 % 2 ^ 16; cs = v / 2 ^ 48 }
 
-unfoldable pub waveNumber : Wave → ℕ
-waveNumber w = w.counter + 2 ^ 16 * w.remainder + 2 ^ 24 * num w.output
+unfoldable pub wave_number : Wave → ℕ
+wave_number w = w.counter + 2 ^ 16 * w.remainder + 2 ^ 24 * num w.output
 
-unfoldable pub waveOf : ℕ → Wave
-waveOf v = record { counter = v % 2 ^ 16; remainder = v / 2 ^ 16 % 2 ^ 8; output = bit 24 v }
+unfoldable pub wave_of : ℕ → Wave
+wave_of v = record { counter = v % 2 ^ 16; remainder = v / 2 ^ 16 % 2 ^ 8; output = bit 24 v }
 
-abbrev pub pwmOf : ℕ → ℕ → Pwm
-pwmOf v w = record { registers = registersOf v; wave = waveOf w }
+abbrev pub pwm_of : ℕ → ℕ → Pwm
+pwm_of v w = record { registers = registers_of v; wave = wave_of w }
 
-abbrev pub isRegisters : ℕ → Bool
-isRegisters v = pwmCnfg (v / 2 ^ 32 % 2 ^ 16) && ltb (v / 2 ^ 48) 8
+abbrev pub is_registers : ℕ → Bool
+is_registers v = pwm_cnfg (v / 2 ^ 32 % 2 ^ 16) && ltb (v / 2 ^ 48) 8
 
-abbrev pub isWave : ℕ → Bool
-isWave w = ltb (w / 2 ^ 24) 2
+abbrev pub is_wave : ℕ → Bool
+is_wave w = ltb (w / 2 ^ 24) 2
 
 -- the remainder is below N, which is 2 to the power of CS - 1, just where twice it is below 2 to the power of CS
-unfoldable pub isShort : Pwm → Bool
-isShort p = leb p.wave.remainder (dividerOf p.registers.cs - 1)
+unfoldable pub is_short : Pwm → Bool
+is_short p = leb p.wave.remainder (divider_of p.registers.cs - 1)
 
-abbrev pub isQuick : ℕ → ℕ → Bool
-isQuick v w = eqb (w / 2 ^ 16 % 2 ^ 8 * 2 / 2 ^ (v / 2 ^ 48 % 64)) 0
+abbrev pub is_quick : ℕ → ℕ → Bool
+is_quick v w = eqb (w / 2 ^ 16 % 2 ^ 8 * 2 / 2 ^ (v / 2 ^ 48 % 64)) 0

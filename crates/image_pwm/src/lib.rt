@@ -1,12 +1,12 @@
 // A PWM channel in two words of 8 bytes: its registers, and what ticks move.
 ghost use Rattle.std.specs.Prelude.{◌≡◌};
-ghost use Rattle.image_pwm.specs.How.{registersNumber, registersOf, isRegisters, isQuick, waveNumber, waveOf, pwmOf};
+ghost use Rattle.image_pwm.specs.How.{registers_number, registers_of, is_registers, is_quick, wave_number, wave_of, pwm_of};
 
 use bits::number;
 use pwm::{Pwm, Registers, Wave};
 
 pub fn registers_number(g: Registers) -> u64
-    ensures { result ≡ registersNumber g }
+    ensures { result ≡ registers_number g }
 {
     g.max as u64
         + 65536 * (g.cmp as u64)
@@ -15,13 +15,13 @@ pub fn registers_number(g: Registers) -> u64
 }
 
 pub fn wave_number(w: Wave) -> u64
-    ensures { result ≡ waveNumber w }
+    ensures { result ≡ wave_number w }
 {
     w.counter as u64 + 65536 * (w.remainder as u64) + 16777216 * (number(w.output) as u64)
 }
 
 fn registers_of(v: u64) -> Registers
-    ensures { result ≡ registersOf v }
+    ensures { result ≡ registers_of v }
 {
     Registers {
         max: (v % 65536) as u16,
@@ -32,7 +32,7 @@ fn registers_of(v: u64) -> Registers
 }
 
 fn wave_of(v: u64) -> Wave
-    ensures { result ≡ waveOf v }
+    ensures { result ≡ wave_of v }
 {
     Wave {
         counter: (v % 65536) as u16,
@@ -42,7 +42,7 @@ fn wave_of(v: u64) -> Wave
 }
 
 pub fn pwm_of(v: u64, w: u64) -> Pwm
-    ensures { result ≡ pwmOf v w }
+    ensures { result ≡ pwm_of v w }
 {
     Pwm {
         registers: registers_of(v),
@@ -52,7 +52,7 @@ pub fn pwm_of(v: u64, w: u64) -> Pwm
 
 // CNFG is 0, 1, 4 or 5 where it is below 8 with bit 1 at 0: the compiler makes one test of it and of CS.
 pub fn is_registers(v: u64) -> bool
-    ensures { result ≡ isRegisters v }
+    ensures { result ≡ is_registers v }
 {
     let cnfg = (v >> 32) % 65536;
     ((cnfg < 8) & (cnfg / 2 % 2 == 0)) & ((v >> 48) < 8)
@@ -60,7 +60,7 @@ pub fn is_registers(v: u64) -> bool
 
 // Whether the remainder is below N, of registers that are ones.
 pub fn is_short(v: u64, w: u64) -> bool
-    ensures { result ≡ isQuick v w }
+    ensures { result ≡ is_quick v w }
 {
     ((w >> 16) % 256 * 2) >> ((v >> 48) % 64) == 0
 }

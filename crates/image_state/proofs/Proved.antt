@@ -5,7 +5,7 @@ use mathlib.Core.List.{List, [], ◌++◌}
 use Prim.Native.Nat.{ℕ}
 use Rattle.image_state.specs.How.{load_of}
 use Rattle.image_state.specs.Facts.{Images}
-use Rattle.image_state.proofs.Loaded.{image-long, image-bytes, back-with}
+use Rattle.image_state.proofs.Loaded.{image_long, image_bytes, back_with}
 
 pub images : Images
-images l f = (image-long l f, image-bytes l f, λ m g e. sym (back-with m g []) ∙ ap (λ (t : List ℕ). load_of (t ++ [])) e ∙ back-with l f [])
+images l f = (image_long l f, image_bytes l f, λ m g e. sym (back_with m g []) ∙ ap (λ (t : List ℕ). load_of (t ++ [])) e ∙ back_with l f [])

@@ -9,55 +9,55 @@ use Rattle.pwm.specs.declared.Pwm.{Pwm}
 use Rattle.bank.specs.declared.Bank.{Bank}
 use Rattle.banks.specs.declared.State.{State}
 use Rattle.banks.specs.declared.Flat.{Flat}
-use Rattle.banks.specs.State.{bankAt}
+use Rattle.banks.specs.State.{bank_at}
 use Rattle.banks.specs.How.{state_of}
 use Rattle.banks.proofs.Whole.{Whole}
 use Rattle.live_state.specs.Live.{Live}
 use Rattle.live_state.specs.declared.Stream.{Stream}
 use Rattle.live_state.specs.How.{live_of}
-use Rattle.codec.specs.How.{saveWord, loadWord, okWord, saveMany, loadMany, okMany}
-use Rattle.image_words.specs.How.{isSelect, i2cNumber, i2cOf, isI2c, encoderNumber, encoderOf, isEncoder}
-use Rattle.image_pwm.specs.How.{registersNumber, waveNumber, pwmOf, isRegisters, isWave, isShort, isQuick}
+use Rattle.codec.specs.How.{save_word, load_word, ok_word, save_many, load_many, ok_many}
+use Rattle.image_words.specs.How.{is_select, i2c_number, i2c_of, is_i2c, encoder_number, encoder_of, is_encoder}
+use Rattle.image_pwm.specs.How.{registers_number, wave_number, pwm_of, is_registers, is_wave, is_short, is_quick}
 use Rattle.image_state.specs.Image.{size, FitsBank, Fits}
 
 abbrev pub FitsState : State → Type 0
-FitsState s = (length s.banks ≡ 2) × ((k : ℕ) → k < 2 → FitsBank (bankAt k s))
+FitsState s = (length s.banks ≡ 2) × ((k : ℕ) → k < 2 → FitsBank (bank_at k s))
 
 -- ---- saved
 
-unfoldable pub headNumber : ℕ → ℕ → ℕ → ℕ
-headNumber refused held edition = refused + 2 ^ 8 * held + 2 ^ 16 * edition
+unfoldable pub head_number : ℕ → ℕ → ℕ → ℕ
+head_number refused held edition = refused + 2 ^ 8 * held + 2 ^ 16 * edition
 
-abbrev pub savePwm : Pwm → List ℕ
-savePwm p = le_bytes 8 (registersNumber p.registers) ++ le_bytes 8 (waveNumber p.wave)
+abbrev pub save_pwm : Pwm → List ℕ
+save_pwm p = le_bytes 8 (registers_number p.registers) ++ le_bytes 8 (wave_number p.wave)
 
 unfoldable pub words_of : Live → List ℕ
 words_of l = let banks = l.state.banks in
-    le_bytes 8 (headNumber l.refused (length l.carried) l.edition)
+    le_bytes 8 (head_number l.refused (length l.carried) l.edition)
     ++ (le_bytes 8 l.applied
     ++ ((l.carried ++ replicate (16 - length l.carried) 0)
-    ++ (saveMany (le_bytes 8) (map (λ (b : Bank). b.select) banks)
-    ++ (saveMany (saveWord i2cNumber) (map (λ (b : Bank). b.i2c) banks)
-    ++ (saveMany (saveWord encoderNumber) (flatten (map (λ (b : Bank). b.encoders) banks))
-    ++ saveMany savePwm (flatten (map (λ (b : Bank). b.pwms) banks)))))))
+    ++ (save_many (le_bytes 8) (map (λ (b : Bank). b.select) banks)
+    ++ (save_many (save_word i2c_number) (map (λ (b : Bank). b.i2c) banks)
+    ++ (save_many (save_word encoder_number) (flatten (map (λ (b : Bank). b.encoders) banks))
+    ++ save_many save_pwm (flatten (map (λ (b : Bank). b.pwms) banks)))))))
 
 -- ---- loaded
 
-abbrev pub loadPwm : List ℕ → ℕ → Pwm
-loadPwm s at = pwmOf (le_of 8 s at) (le_of 8 s (at + 8))
+abbrev pub load_pwm : List ℕ → ℕ → Pwm
+load_pwm s at = pwm_of (le_of 8 s at) (le_of 8 s (at + 8))
 
-abbrev pub loadBank : List ℕ → ℕ → Bank
-loadBank s k = record {
+abbrev pub load_bank : List ℕ → ℕ → Bank
+load_bank s k = record {
   select = le_of 8 s (32 + 8 * k);
-  i2c = i2cOf (le_of 8 s (48 + 8 * k));
-  encoders = loadMany 8 (loadWord encoderOf) 10 s (64 + 80 * k);
-  pwms = loadMany 16 loadPwm 20 s (224 + 320 * k);
+  i2c = i2c_of (le_of 8 s (48 + 8 * k));
+  encoders = load_many 8 (load_word encoder_of) 10 s (64 + 80 * k);
+  pwms = load_many 16 load_pwm 20 s (224 + 320 * k);
 }
 
 unfoldable pub load_of : List ℕ → Live
 load_of s = let head = le_of 8 s 0 in record {
   edition = head / 2 ^ 16;
-  state = record { banks = loadBank s 0 ∷ loadBank s 1 ∷ [] };
+  state = record { banks = load_bank s 0 ∷ load_bank s 1 ∷ [] };
   carried = take (head / 2 ^ 8 % 2 ^ 8) (drop 16 s);
   applied = le_of 8 s 8;
   refused = head % 2 ^ 8;
@@ -65,51 +65,51 @@ load_of s = let head = le_of 8 s 0 in record {
 
 -- ---- the test
 
-abbrev pub isRefusal : ℕ → Bool
-isRefusal n = eqb n 0 || ((leb 7 n && leb n 11) || (eqb n 16 || eqb n 18))
+abbrev pub is_refusal : ℕ → Bool
+is_refusal n = eqb n 0 || ((leb 7 n && leb n 11) || (eqb n 16 || eqb n 18))
 
-abbrev pub isHead : ℕ → ℕ → ℕ → Bool
-isHead refused held edition = known edition && (isRefusal refused && (ltb held 16 && (eqb refused 0 || eqb held 0)))
+abbrev pub is_head : ℕ → ℕ → ℕ → Bool
+is_head refused held edition = known edition && (is_refusal refused && (ltb held 16 && (eqb refused 0 || eqb held 0)))
 
 -- a carried byte, before the place where they end, or a 0
-abbrev pub isCarried : ℕ → List ℕ → ℕ → Bool
-isCarried end s at = ltb at end || eqb (byte s at) 0
+abbrev pub is_carried : ℕ → List ℕ → ℕ → Bool
+is_carried end s at = ltb at end || eqb (byte s at) 0
 
-abbrev pub okPwm : List ℕ → ℕ → Bool
-okPwm s at = (isRegisters (le_of 8 s at) && isWave (le_of 8 s (at + 8))) && isShort (loadPwm s at)
+abbrev pub ok_pwm : List ℕ → ℕ → Bool
+ok_pwm s at = (is_registers (le_of 8 s at) && is_wave (le_of 8 s (at + 8))) && is_short (load_pwm s at)
 
-unfoldable pub isState : List ℕ → Bool
-isState s = let head = le_of 8 s 0 in let held = head / 2 ^ 8 % 2 ^ 8 in
+unfoldable pub is_state : List ℕ → Bool
+is_state s = let head = le_of 8 s 0 in let held = head / 2 ^ 8 % 2 ^ 8 in
     leb size (length s)
-    && (isHead (head % 2 ^ 8) held (head / 2 ^ 16)
-    && (okMany 1 (isCarried (16 + held)) 16 s 16
-    && (okMany 8 (okWord isSelect) 2 s 32
-    && (okMany 8 (okWord isI2c) 2 s 48
-    && (okMany 8 (okWord isEncoder) 20 s 64
-    && okMany 16 okPwm 40 s 224)))))
+    && (is_head (head % 2 ^ 8) held (head / 2 ^ 16)
+    && (ok_many 1 (is_carried (16 + held)) 16 s 16
+    && (ok_many 8 (ok_word is_select) 2 s 32
+    && (ok_many 8 (ok_word is_i2c) 2 s 48
+    && (ok_many 8 (ok_word is_encoder) 20 s 64
+    && ok_many 16 ok_pwm 40 s 224)))))
 
 -- ---- both banks flat
 
-unfoldable pub withEncoders : Flat → List ℕ → Flat
-withEncoders f s = record { selects = f.selects; encoders = loadMany 8 (loadWord encoderOf) 20 s 64; pwms = f.pwms; i2cs = f.i2cs }
+unfoldable pub with_encoders : Flat → List ℕ → Flat
+with_encoders f s = record { selects = f.selects; encoders = load_many 8 (load_word encoder_of) 20 s 64; pwms = f.pwms; i2cs = f.i2cs }
 
-unfoldable pub withPwms : Flat → List ℕ → Flat
-withPwms f s = record { selects = f.selects; encoders = f.encoders; pwms = loadMany 16 loadPwm 40 s 224; i2cs = f.i2cs }
+unfoldable pub with_pwms : Flat → List ℕ → Flat
+with_pwms f s = record { selects = f.selects; encoders = f.encoders; pwms = load_many 16 load_pwm 40 s 224; i2cs = f.i2cs }
 
-unfoldable pub flatOf : List ℕ → Flat
-flatOf s = record {
-  selects = loadMany 8 (le_of 8) 2 s 32;
-  encoders = loadMany 8 (loadWord encoderOf) 20 s 64;
-  pwms = loadMany 16 loadPwm 40 s 224;
-  i2cs = loadMany 8 (loadWord i2cOf) 2 s 48;
+unfoldable pub flat_of : List ℕ → Flat
+flat_of s = record {
+  selects = load_many 8 (le_of 8) 2 s 32;
+  encoders = load_many 8 (load_word encoder_of) 20 s 64;
+  pwms = load_many 16 load_pwm 40 s 224;
+  i2cs = load_many 8 (load_word i2c_of) 2 s 48;
 }
 
 -- the second word of a channel, and both
-abbrev pub okWave : List ℕ → ℕ → Bool
-okWave s at = isWave (le_of 8 s (at + 8))
+abbrev pub ok_wave : List ℕ → ℕ → Bool
+ok_wave s at = is_wave (le_of 8 s (at + 8))
 
-abbrev pub okQuick : List ℕ → ℕ → Bool
-okQuick s at = isQuick (le_of 8 s at) (le_of 8 s (at + 8))
+abbrev pub ok_quick : List ℕ → ℕ → Bool
+ok_quick s at = is_quick (le_of 8 s at) (le_of 8 s (at + 8))
 
 -- what is known of a stream that was loaded, besides its state: what a chunk asks for
 pub record Loads (s : List ℕ) (r : Stream) : Type 0 where

@@ -8,11 +8,11 @@ use mathlib.Core.List.{List, ◌∷◌, ◌++◌, map, flatten}
 use Rattle.numbers.specs.Bytes.{byte, le_bytes}
 use Rattle.edition.specs.Edition.{known}
 use Rattle.bank.specs.declared.Bank.{Bank}
-use Rattle.bank.specs.Bank.{encoderAt, pwmAt}
-use Rattle.banks.specs.State.{bankAt}
+use Rattle.bank.specs.Bank.{encoder_at, pwm_at}
+use Rattle.banks.specs.State.{bank_at}
 use Rattle.live_state.specs.Live.{Live}
-use Rattle.image_words.specs.Words.{i2cBytes, FitsI2c, encoderBytes, FitsEncoder}
-use Rattle.image_pwm.specs.Words.{pwmBytes, FitsPwm}
+use Rattle.image_words.specs.Words.{i2c_bytes, FitsI2c, encoder_bytes, FitsEncoder}
+use Rattle.image_pwm.specs.Words.{pwm_bytes, FitsPwm}
 
 -- RVZ_STREAM_BYTES
 abbrev pub size : ℕ
@@ -24,9 +24,9 @@ image_of l = let all : (Bank → List ℕ) → List ℕ = λ f. flatten (map f l
     ++ le_bytes 8 l.applied
     ++ l.carried ++ replicate (16 - length l.carried) 0
     ++ all (λ b. le_bytes 8 b.select)
-    ++ all (λ b. i2cBytes b.i2c)
-    ++ all (λ b. flatten (map encoderBytes b.encoders))
-    ++ all (λ b. flatten (map pwmBytes b.pwms))
+    ++ all (λ b. i2c_bytes b.i2c)
+    ++ all (λ b. flatten (map encoder_bytes b.encoders))
+    ++ all (λ b. flatten (map pwm_bytes b.pwms))
 
 -- ---- the streams that have an image: every register in its range
 
@@ -34,8 +34,8 @@ pub record FitsBank (b : Bank) : Type 0 where
   -- "Bits 40 to 63 set is refusal 8"
   pub select : b.select < 2 ^ 40
   pub i2c : FitsI2c b.i2c
-  pub encoders : (length b.encoders ≡ 10) × ((i : ℕ) → FitsEncoder (encoderAt i b))
-  pub pwms : (length b.pwms ≡ 20) × ((i : ℕ) → FitsPwm (pwmAt i b))
+  pub encoders : (length b.encoders ≡ 10) × ((i : ℕ) → FitsEncoder (encoder_at i b))
+  pub pwms : (length b.pwms ≡ 20) × ((i : ℕ) → FitsPwm (pwm_at i b))
 
 pub record Fits (l : Live) : Type 0 where
   pub edition : known l.edition ≡ true
@@ -45,7 +45,7 @@ pub record Fits (l : Live) : Type 0 where
   pub held : length l.carried < cond (eqb l.refused 0) 16 1
   pub carried : (i : ℕ) → byte l.carried i < 256
   pub applied : l.applied < 2 ^ 64
-  pub banks : (length l.state.banks ≡ 2) × ((k : ℕ) → k < 2 → FitsBank (bankAt k l.state))
+  pub banks : (length l.state.banks ≡ 2) × ((k : ℕ) → k < 2 → FitsBank (bank_at k l.state))
 
 -- a stream stands in bytes: they begin with its image
 abbrev pub Stands : List ℕ → Live → Type 0

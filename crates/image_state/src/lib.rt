@@ -1,23 +1,23 @@
 // Whether bytes are a stream's state: 864 of them, laid out in specs/Image.antt.
 ghost use Rattle.std.specs.Prelude.{◌≡◌, true, ◌+◌, ◌<◌, ◌≤◌, length};
-ghost use Rattle.codec.specs.How.{okWord, okMany};
-ghost use Rattle.image_words.specs.How.{isEncoder};
-ghost use Rattle.image_pwm.specs.How.{isRegisters};
+ghost use Rattle.codec.specs.How.{ok_word, ok_many};
+ghost use Rattle.image_words.specs.How.{is_encoder};
+ghost use Rattle.image_pwm.specs.How.{is_registers};
 ghost use Rattle.image_state.specs.Image.{size};
-ghost use Rattle.image_state.specs.How.{isRefusal, isHead, isCarried, isState, okWave, okQuick};
+ghost use Rattle.image_state.specs.How.{is_refusal, is_head, is_carried, is_state, ok_wave, ok_quick};
 
 use image_pwm::{is_registers, is_short};
 use image_words::{is_encoder, is_i2c};
 use numbers::le64;
 
 fn is_refusal(n: u64) -> bool
-    ensures { result ≡ isRefusal n }
+    ensures { result ≡ is_refusal n }
 {
     (n == 0) | (((7 <= n) & (n <= 11)) | ((n == 16) | (n == 18)))
 }
 
 fn is_head(refused: u64, held: u64, edition: u64) -> bool
-    ensures { result ≡ isHead refused held edition }
+    ensures { result ≡ is_head refused held edition }
 {
     ((1 <= edition) & (edition <= 4))
         & (is_refusal(refused) & ((held < 16) & ((refused == 0) | (held == 0))))
@@ -26,7 +26,7 @@ fn is_head(refused: u64, held: u64, edition: u64) -> bool
 // The carried bytes end before a place: those from there on are 0.
 fn are_carried(s: &[u8], end: usize) -> bool
     requires { size ≤ length s.now }
-    ensures { result ≡ okMany 1 (isCarried end) 16 s.now 16 }
+    ensures { result ≡ ok_many 1 (is_carried end) 16 s.now 16 }
 {
     let mut all = true;
     for i in 0..16 {
@@ -37,7 +37,7 @@ fn are_carried(s: &[u8], end: usize) -> bool
 
 fn are_encoders(s: &[u8]) -> bool
     requires { size ≤ length s.now }
-    ensures { result ≡ okMany 8 (okWord isEncoder) 20 s.now 64 }
+    ensures { result ≡ ok_many 8 (ok_word is_encoder) 20 s.now 64 }
 {
     let mut all = true;
     for i in 0..20 {
@@ -49,7 +49,7 @@ fn are_encoders(s: &[u8]) -> bool
 // The tests of a PWM channel are three loops: each is then few instructions.
 fn are_registers(s: &[u8]) -> bool
     requires { size ≤ length s.now }
-    ensures { result ≡ okMany 16 (okWord isRegisters) 40 s.now 224 }
+    ensures { result ≡ ok_many 16 (ok_word is_registers) 40 s.now 224 }
 {
     let mut all = true;
     for i in 0..40 {
@@ -60,7 +60,7 @@ fn are_registers(s: &[u8]) -> bool
 
 fn are_waves(s: &[u8]) -> bool
     requires { size ≤ length s.now }
-    ensures { result ≡ okMany 16 okWave 40 s.now 224 }
+    ensures { result ≡ ok_many 16 ok_wave 40 s.now 224 }
 {
     let mut all = true;
     for i in 0..40 {
@@ -71,7 +71,7 @@ fn are_waves(s: &[u8]) -> bool
 
 fn are_short(s: &[u8]) -> bool
     requires { size ≤ length s.now }
-    ensures { result ≡ okMany 16 okQuick 40 s.now 224 }
+    ensures { result ≡ ok_many 16 ok_quick 40 s.now 224 }
 {
     let mut all = true;
     for i in 0..40 {
@@ -81,7 +81,7 @@ fn are_short(s: &[u8]) -> bool
 }
 
 pub fn is_state(s: &[u8]) -> bool
-    ensures { result ≡ isState s.now }
+    ensures { result ≡ is_state s.now }
 {
     if s.len() < 864 {
         return false;

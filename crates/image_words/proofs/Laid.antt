@@ -12,9 +12,9 @@ use Rattle.encoder.specs.declared.Encoder.{Encoder}
 use Rattle.encoder_count.proofs.Wrap.{pattern_lt}
 use Rattle.i2c.specs.declared.I2c.{I2c}
 use Rattle.i2c.specs.I2c.{state_of}
-use Rattle.image_words.specs.Words.{i2cBytes, FitsI2c, encoderBytes, FitsEncoder}
-use Rattle.image_words.specs.How.{i2cNumber, encoderNumber}
-use Rattle.image_words.proofs.Numbers.{state-small}
+use Rattle.image_words.specs.Words.{i2c_bytes, FitsI2c, encoder_bytes, FitsEncoder}
+use Rattle.image_words.specs.How.{i2c_number, encoder_number}
+use Rattle.image_words.proofs.Numbers.{state_small}
 use Rattle.image_words.proofs.Digits.{one}
 
 -- a byte, and what is above it
@@ -36,19 +36,19 @@ lows (suc m) n a v t h e =
     let small : a / 256 < 256 ^ m = (div-lt_iff_lt-mul {k = 256} {x = a} {y = 256 ^ m} (omega arith)).1 (rw pow-suc at h) in
     rw (suc-add m n, p, q, r) (ap (λ (l : List ℕ). a % 256 ∷ l) (lows m n (a / 256) v t small e))
 
-pub i2c-bytes : (c : I2c) → FitsI2c c → le_bytes 8 (i2cNumber c) ≡ i2cBytes c
-unfolding i2cNumber
-i2c-bytes c f =
-    let s = state-small c.phase in
+pub i2c_bytes_lem : (c : I2c) → FitsI2c c → le_bytes 8 (i2c_number c) ≡ i2c_bytes c
+unfolding i2c_number
+i2c_bytes_lem c f =
+    let s = state_small c.phase in
     let o = one c.acknowledged in
     let e : c.addr + 2 ^ 8 * c.cntl + 2 ^ 16 * state_of c.phase + 2 ^ 24 * num c.acknowledged + 2 ^ 32 * c.answer + 2 ^ 40 * c.failure
     ≡ c.addr + 256 * (c.cntl + 256 * (state_of c.phase + 256 * (num c.acknowledged + 256 * (c.answer + 256 * (c.failure + 256 * 0))))) = omega arith in
     ap (le_bytes 8) e
     ∙ low 7 c.addr _ _ f.0 (low 6 c.cntl _ _ (omega arith) (low 5 (state_of c.phase) _ _ (omega arith) (low 4 (num c.acknowledged) _ _ (omega arith) (low 3 c.answer _ _ (omega arith) (low 2 c.failure 0 _ (omega arith) refl)))))
 
-pub encoder-bytes : (e : Encoder) → FitsEncoder e → le_bytes 8 (encoderNumber e) ≡ encoderBytes e
-unfolding encoderNumber
-encoder-bytes e f =
+pub encoder_bytes_lem : (e : Encoder) → FitsEncoder e → le_bytes 8 (encoder_number e) ≡ encoder_bytes e
+unfolding encoder_number
+encoder_bytes_lem e f =
     let o = one e.seen in
     let p : pattern e.count + 2 ^ 32 * e.cnfg + 2 ^ 40 * e.stat + 2 ^ 48 * e.pins + 2 ^ 56 * num e.seen
     ≡ pattern e.count + 256 ^ 4 * (e.cnfg + 256 * (e.stat + 256 * (e.pins + 256 * (num e.seen + 256 * 0)))) = omega arith in

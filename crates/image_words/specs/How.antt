@@ -11,44 +11,44 @@ use Rattle.i2c.specs.I2c.{state_of}
 
 -- ---- SELECT
 
-abbrev pub isSelect : ℕ → Bool
-isSelect v = ltb v (2 ^ 40)
+abbrev pub is_select : ℕ → Bool
+is_select v = ltb v (2 ^ 40)
 
 -- ---- the I2C
 
-abbrev pub phaseOf : ℕ → Phase
-phaseOf n = cond (eqb n 0) Idle (cond (eqb n 1) TxIdle RxIdle)
+abbrev pub phase_of : ℕ → Phase
+phase_of n = cond (eqb n 0) Idle (cond (eqb n 1) TxIdle RxIdle)
 
-unfoldable pub i2cNumber : I2c → ℕ
-i2cNumber c =
+unfoldable pub i2c_number : I2c → ℕ
+i2c_number c =
     c.addr + 2 ^ 8 * c.cntl + 2 ^ 16 * state_of c.phase + 2 ^ 24 * num c.acknowledged + 2 ^ 32 * c.answer + 2 ^ 40 * c.failure
 
-unfoldable pub i2cOf : ℕ → I2c
-i2cOf v = record {
+unfoldable pub i2c_of : ℕ → I2c
+i2c_of v = record {
   addr = v % 2 ^ 8;
   cntl = v / 2 ^ 8 % 2 ^ 8;
-  phase = phaseOf (v / 2 ^ 16 % 2 ^ 8);
+  phase = phase_of (v / 2 ^ 16 % 2 ^ 8);
   acknowledged = bit 24 v;
   answer = v / 2 ^ 32 % 2 ^ 8;
   failure = v / 2 ^ 40 % 2 ^ 8;
 }
 
-abbrev pub isI2c : ℕ → Bool
-isI2c v =
+abbrev pub is_i2c : ℕ → Bool
+is_i2c v =
     ltb (v / 2 ^ 8 % 2 ^ 8) 16
     && (ltb (v / 2 ^ 16 % 2 ^ 8) 3 && (ltb (v / 2 ^ 24 % 2 ^ 8) 2 && (ltb (v / 2 ^ 32 % 2 ^ 8) 4 && ltb (v / 2 ^ 40) 3)))
 
 -- ---- an encoder
 
-unfoldable pub encoderNumber : Encoder → ℕ
-encoderNumber e = pattern e.count + 2 ^ 32 * e.cnfg + 2 ^ 40 * e.stat + 2 ^ 48 * e.pins + 2 ^ 56 * num e.seen
+unfoldable pub encoder_number : Encoder → ℕ
+encoder_number e = pattern e.count + 2 ^ 32 * e.cnfg + 2 ^ 40 * e.stat + 2 ^ 48 * e.pins + 2 ^ 56 * num e.seen
 
 -- with the low bytes of CNFG and STAT, which are all of them where the encoder is in range
-unfoldable pub lowNumber : Encoder → ℕ
-lowNumber e = pattern e.count + 2 ^ 32 * (e.cnfg % 2 ^ 8) + 2 ^ 40 * (e.stat % 2 ^ 8) + 2 ^ 48 * e.pins + 2 ^ 56 * num e.seen
+unfoldable pub low_number : Encoder → ℕ
+low_number e = pattern e.count + 2 ^ 32 * (e.cnfg % 2 ^ 8) + 2 ^ 40 * (e.stat % 2 ^ 8) + 2 ^ 48 * e.pins + 2 ^ 56 * num e.seen
 
-unfoldable pub encoderOf : ℕ → Encoder
-encoderOf v = record {
+unfoldable pub encoder_of : ℕ → Encoder
+encoder_of v = record {
   count = signed (v % 2 ^ 32);
   cnfg = v / 2 ^ 32 % 2 ^ 8;
   stat = v / 2 ^ 40 % 2 ^ 8;
@@ -56,5 +56,5 @@ encoderOf v = record {
   seen = bit 56 v;
 }
 
-abbrev pub isEncoder : ℕ → Bool
-isEncoder v = ltb (v / 2 ^ 32 % 2 ^ 8) 32 && (ltb (v / 2 ^ 40 % 2 ^ 8) 64 && (ltb (v / 2 ^ 48 % 2 ^ 8) 4 && ltb (v / 2 ^ 56) 2))
+abbrev pub is_encoder : ℕ → Bool
+is_encoder v = ltb (v / 2 ^ 32 % 2 ^ 8) 32 && (ltb (v / 2 ^ 40 % 2 ^ 8) 64 && (ltb (v / 2 ^ 48 % 2 ^ 8) 4 && ltb (v / 2 ^ 56) 2))

@@ -10,15 +10,15 @@ use Rattle.i2c.specs.declared.I2c.{I2c}
 use Rattle.i2c.specs.I2c.{state_of}
 
 -- the I2C: ADDR, CNTL, the state, whether the last received byte was acknowledged, the slave's answer, the failure
-abbrev pub i2cBytes : I2c → List ℕ
-i2cBytes c = c.addr ∷ c.cntl ∷ state_of c.phase ∷ num c.acknowledged ∷ c.answer ∷ c.failure ∷ 0 ∷ 0 ∷ []
+abbrev pub i2c_bytes : I2c → List ℕ
+i2c_bytes c = c.addr ∷ c.cntl ∷ state_of c.phase ∷ num c.acknowledged ∷ c.answer ∷ c.failure ∷ 0 ∷ 0 ∷ []
 
 abbrev pub FitsI2c : I2c → Type 0
 FitsI2c c = (c.addr < 256) × (c.cntl < 16) × (c.answer < 4) × (c.failure < 3)
 
 -- an encoder: the count's pattern, CNFG, STAT, the pins, whether they were seen
-abbrev pub encoderBytes : Encoder → List ℕ
-encoderBytes e = le_bytes 4 (pattern e.count) ++ e.cnfg ∷ e.stat ∷ e.pins ∷ num e.seen ∷ []
+abbrev pub encoder_bytes : Encoder → List ℕ
+encoder_bytes e = le_bytes 4 (pattern e.count) ++ e.cnfg ∷ e.stat ∷ e.pins ∷ num e.seen ∷ []
 
 -- a count of 32 bits: `mag` is n for n and for -(n + 1)
 abbrev pub FitsEncoder : Encoder → Type 0

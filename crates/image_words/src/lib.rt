@@ -2,7 +2,7 @@
 ghost use Rattle.std.specs.Prelude.{◌≡◌, ◌<◌};
 ghost use Rattle.encoder_count.specs.Count.{pattern};
 ghost use Rattle.i2c.specs.I2c.{state_of};
-ghost use Rattle.image_words.specs.How.{phaseOf, i2cNumber, i2cOf, isI2c, lowNumber, encoderOf, isEncoder};
+ghost use Rattle.image_words.specs.How.{phase_of, i2c_number, i2c_of, is_i2c, low_number, encoder_of, is_encoder};
 
 use bits::number;
 use encoder::Encoder;
@@ -19,7 +19,7 @@ fn pattern(e: Encoder) -> u64
 
 // Of an encoder in range, whose CNFG and STAT are bytes.
 pub fn encoder_number(e: Encoder) -> u64
-    ensures { result ≡ lowNumber e }
+    ensures { result ≡ low_number e }
 {
     pattern(e)
         + 4294967296 * ((e.cnfg % 256) as u64)
@@ -29,7 +29,7 @@ pub fn encoder_number(e: Encoder) -> u64
 }
 
 pub fn encoder_of(v: u64) -> Encoder
-    ensures { result ≡ encoderOf v }
+    ensures { result ≡ encoder_of v }
 {
     Encoder {
         count: encoder_count::count_of((v % 4294967296) as u32),
@@ -41,7 +41,7 @@ pub fn encoder_of(v: u64) -> Encoder
 }
 
 pub fn is_encoder(v: u64) -> bool
-    ensures { result ≡ isEncoder v }
+    ensures { result ≡ is_encoder v }
 {
     ((v >> 32) % 256 < 32) & (((v >> 40) % 256 < 64) & (((v >> 48) % 256 < 4) & ((v >> 56) < 2)))
 }
@@ -49,7 +49,7 @@ pub fn is_encoder(v: u64) -> bool
 // ---- the I2C
 
 fn phase_of(n: u64) -> Phase
-    ensures { result ≡ phaseOf n }
+    ensures { result ≡ phase_of n }
 {
     if n == 0 {
         return Phase::Idle;
@@ -67,7 +67,7 @@ fn state(c: I2c) -> u64
 }
 
 pub fn i2c_number(c: I2c) -> u64
-    ensures { result ≡ i2cNumber c }
+    ensures { result ≡ i2c_number c }
 {
     c.addr as u64
         + 256 * (c.cntl as u64)
@@ -78,7 +78,7 @@ pub fn i2c_number(c: I2c) -> u64
 }
 
 pub fn i2c_of(v: u64) -> I2c
-    ensures { result ≡ i2cOf v }
+    ensures { result ≡ i2c_of v }
 {
     I2c {
         addr: (v % 256) as u8,
@@ -91,7 +91,7 @@ pub fn i2c_of(v: u64) -> I2c
 }
 
 pub fn is_i2c(v: u64) -> bool
-    ensures { result ≡ isI2c v }
+    ensures { result ≡ is_i2c v }
 {
     ((v >> 8) % 256 < 16)
         & (((v >> 16) % 256 < 3)

@@ -10,14 +10,14 @@ use native.Mathlib.Decide.{ℕ_discrete}
 use lib.ListN.{length, take}
 use lib.Seq.{take_all}
 use Rattle.fold.specs.Run.{Course, going, stopped, tally}
-use Rattle.wire.specs.Decode.{asks, readsIn}
-use Rattle.trailer.specs.Trailer.{recordsOf}
-use Rattle.trailer.proofs.Laws.{few-records}
+use Rattle.wire.specs.Decode.{asks, reads_in}
+use Rattle.trailer.specs.Trailer.{records_of}
+use Rattle.trailer.proofs.Laws.{few_records}
 use Rattle.replay.specs.Replay.{replayed}
 use Rattle.transcript.specs.Judge.{plain, opposite, Judged, refused, other_length, same, negated, both, different}
 use Rattle.transcript.specs.How.{Agree}
 use Rattle.transcript.proofs.Numbers.{fewer}
-use Rattle.transcript.proofs.Placed.{plain-long, opposite-long}
+use Rattle.transcript.proofs.Placed.{plain_long, opposite_long}
 
 pub alike : (s t : List ℕ) → Dec (s ≡ t)
 alike = List-discrete ℕ_discrete
@@ -38,8 +38,8 @@ first_below (suc n) s t d = by (alike (take (8 * n) s) (take (8 * n) t)) (first_
 first_of : (s t : List ℕ) → length s ≡ length t → (s ≡ t → ⊥) → (i : ℕ) × First s t i
 first_of s t e d = first_below (length s) s t (λ a. d (sym (take_all (8 * length s) s (omega arith)) ∙ a ∙ take_all (8 * length s) t (omega arith)))
 
-one-first : (s t : List ℕ) (i j : ℕ) → First s t i → First s t j → i ≡ j
-one-first s t i j p q =
+one_first : (s t : List ℕ) (i j : ℕ) → First s t i → First s t j → i ≡ j
+one_first s t i j p q =
     let no_less : i < j → ⊥ = λ h. p.1 (fewer (i + 1) j s t (omega arith) q.0) in
     let no_more : j < i → ⊥ = λ h. q.1 (fewer (j + 1) i s t (omega arith) p.0) in
     omega (arith, no_less, no_more)
@@ -77,78 +77,78 @@ module _ (log ts : List ℕ) where
   Index : ℕ → Type 0
   Index i = length ts ≡ length (plain log) → (ts ≡ plain log → ⊥) → First ts (plain log) i
 
-  an-index : Dec (length ts ≡ length (plain log)) → Dec (ts ≡ plain log) → (i : ℕ) × Index i
+  an_index : Dec (length ts ≡ length (plain log)) → Dec (ts ≡ plain log) → (i : ℕ) × Index i
   unfolding Index
-  an-index (yes l) (yes p) = (0, λ m n. absurd (n p))
-  an-index (yes l) (no p) = let f = first_of ts (plain log) l p in (f.0, λ m n. f.1)
-  an-index (no l) d = (0, λ m n. absurd (l m))
+  an_index (yes l) (yes p) = (0, λ m n. absurd (n p))
+  an_index (yes l) (no p) = let f = first_of ts (plain log) l p in (f.0, λ m n. f.1)
+  an_index (no l) d = (0, λ m n. absurd (l m))
 
   index : ℕ
-  index = (an-index fits (alike ts (plain log))).0
+  index = (an_index fits (alike ts (plain log))).0
 
   answer : ℕ × ℕ × ℕ
   answer = picked (replayed log).course (test fits) (test (alike ts (plain log))) (test (alike ts (opposite log))) index
 
-  is-answer : (a : ℕ × ℕ × ℕ) → Judged log ts a → a ≡ answer
+  is_answer : (a : ℕ × ℕ × ℕ) → Judged log ts a → a ≡ answer
   unfolding answer index Index picked
-  is-answer a (refused c) = rw c
-  is-answer a (other_length c l) = rw (c, failed fits l)
-  is-answer a (same c p q) = rw (c, passed fits (ap length p), passed (alike ts (plain log)) p, failed (alike ts (opposite log)) q)
-  is-answer a (negated c p q) = rw (c, passed fits (ap length q ∙ opposite-long log c), failed (alike ts (plain log)) p, passed (alike ts (opposite log)) q)
-  is-answer a (both c p q) = rw (c, passed fits (ap length p), passed (alike ts (plain log)) p, passed (alike ts (opposite log)) q)
-  is-answer a (different {i} c l q f g) =
+  is_answer a (refused c) = rw c
+  is_answer a (other_length c l) = rw (c, failed fits l)
+  is_answer a (same c p q) = rw (c, passed fits (ap length p), passed (alike ts (plain log)) p, failed (alike ts (opposite log)) q)
+  is_answer a (negated c p q) = rw (c, passed fits (ap length q ∙ opposite_long log c), failed (alike ts (plain log)) p, passed (alike ts (opposite log)) q)
+  is_answer a (both c p q) = rw (c, passed fits (ap length p), passed (alike ts (plain log)) p, passed (alike ts (opposite log)) q)
+  is_answer a (different {i} c l q f g) =
       let p : ts ≡ plain log → ⊥ = λ e. g (ap (take (8 * (i + 1))) e) in
-      let e : i ≡ index = one-first ts (plain log) i index (f, g) ((an-index fits (alike ts (plain log))).1 l p) in
+      let e : i ≡ index = one_first ts (plain log) i index (f, g) ((an_index fits (alike ts (plain log))).1 l p) in
       rw (c, passed fits l, failed (alike ts (plain log)) p, failed (alike ts (opposite log)) q, e)
 
-  an-answer : (c : Course) → (replayed log).course ≡ c → Dec (length ts ≡ length (plain log)) → Dec (ts ≡ plain log) → Dec (ts ≡ opposite log) → (a : ℕ × ℕ × ℕ) × Judged log ts a
-  an-answer (stopped k) c l p q = ((k, 0, 0), refused c)
-  an-answer going c (no l) p q = ((17, 0, 0), other_length c l)
-  an-answer going c (yes l) (yes p) (yes q) = ((0, 3, 0), both c p q)
-  an-answer going c (yes l) (yes p) (no q) = ((0, 1, 0), same c p q)
-  an-answer going c (yes l) (no p) (yes q) = ((0, 2, 0), negated c p q)
-  an-answer going c (yes l) (no p) (no q) =
+  an_answer : (c : Course) → (replayed log).course ≡ c → Dec (length ts ≡ length (plain log)) → Dec (ts ≡ plain log) → Dec (ts ≡ opposite log) → (a : ℕ × ℕ × ℕ) × Judged log ts a
+  an_answer (stopped k) c l p q = ((k, 0, 0), refused c)
+  an_answer going c (no l) p q = ((17, 0, 0), other_length c l)
+  an_answer going c (yes l) (yes p) (yes q) = ((0, 3, 0), both c p q)
+  an_answer going c (yes l) (yes p) (no q) = ((0, 1, 0), same c p q)
+  an_answer going c (yes l) (no p) (yes q) = ((0, 2, 0), negated c p q)
+  an_answer going c (yes l) (no p) (no q) =
       let f = first_of ts (plain log) l p in
       ((0, 4, f.0), different c l q f.1.0 f.1.1)
 
-  pub there-is : (a : ℕ × ℕ × ℕ) × Judged log ts a
-  there-is = an-answer (replayed log).course refl fits (alike ts (plain log)) (alike ts (opposite log))
+  pub there_is : (a : ℕ × ℕ × ℕ) × Judged log ts a
+  there_is = an_answer (replayed log).course refl fits (alike ts (plain log)) (alike ts (opposite log))
 
-  pub no-two : (a b : ℕ × ℕ × ℕ) → Judged log ts a → Judged log ts b → a ≡ b
-  no-two a b p q = is-answer a p ∙ sym (is-answer b q)
+  pub no_two : (a b : ℕ × ℕ × ℕ) → Judged log ts a → Judged log ts b → a ≡ b
+  no_two a b p q = is_answer a p ∙ sym (is_answer b q)
 
   -- "both", and what it says
-  pub when-both : (a : ℕ × ℕ × ℕ) → a.1 ≡ 3 → Judged log ts a → ((replayed log).course ≡ going) × (ts ≡ plain log) × (ts ≡ opposite log)
-  when-both a e (refused c) = absurd (omega arith)
-  when-both a e (other_length c l) = absurd (omega arith)
-  when-both a e (same c p q) = absurd (omega arith)
-  when-both a e (negated c p q) = absurd (omega arith)
-  when-both a e (both c p q) = (c, p, q)
-  when-both a e (different c l q f g) = absurd (omega arith)
+  pub when_both : (a : ℕ × ℕ × ℕ) → a.1 ≡ 3 → Judged log ts a → ((replayed log).course ≡ going) × (ts ≡ plain log) × (ts ≡ opposite log)
+  when_both a e (refused c) = absurd (omega arith)
+  when_both a e (other_length c l) = absurd (omega arith)
+  when_both a e (same c p q) = absurd (omega arith)
+  when_both a e (negated c p q) = absurd (omega arith)
+  when_both a e (both c p q) = (c, p, q)
+  when_both a e (different c l q f g) = absurd (omega arith)
 
 -- ---- the index is that of a reading
 
 -- the readings of any log have room in 16,384 bytes
-few-reads : (rs : List (List ℕ)) → readsIn rs ≤ length rs
+few_reads : (rs : List (List ℕ)) → reads_in rs ≤ length rs
 unfolding tally
-few-reads [] = omega arith
-few-reads (r ∷ rs) = by (asks r) (few-reads rs)
+few_reads [] = omega arith
+few_reads (r ∷ rs) = by (asks r) (few_reads rs)
   where
-    by : (t : Bool) → readsIn rs ≤ length rs → cond t 1 0 + readsIn rs ≤ length (r ∷ rs)
+    by : (t : Bool) → reads_in rs ≤ length rs → cond t 1 0 + reads_in rs ≤ length (r ∷ rs)
     by true h = omega arith
     by false h = omega arith
 
-pub has_room : (log : List ℕ) → readsIn (recordsOf log) < 2048
-has_room log = omega (arith, few-reads (recordsOf log), few-records log)
+pub has_room : (log : List ℕ) → reads_in (records_of log) < 2048
+has_room log = omega (arith, few_reads (records_of log), few_records log)
 
-pub small-index : (log ts : List ℕ) (a : ℕ × ℕ × ℕ) → Judged log ts a → a.2 < 2048
-small-index log ts a (refused c) = omega arith
-small-index log ts a (other_length c l) = omega arith
-small-index log ts a (same c p q) = omega arith
-small-index log ts a (negated c p q) = omega arith
-small-index log ts a (both c p q) = omega arith
-small-index log ts a (different {i} c l q f g) =
-    let long = plain-long log c in
+pub small_index : (log ts : List ℕ) (a : ℕ × ℕ × ℕ) → Judged log ts a → a.2 < 2048
+small_index log ts a (refused c) = omega arith
+small_index log ts a (other_length c l) = omega arith
+small_index log ts a (same c p q) = omega arith
+small_index log ts a (negated c p q) = omega arith
+small_index log ts a (both c p q) = omega arith
+small_index log ts a (different {i} c l q f g) =
+    let long = plain_long log c in
     let within : 2048 ≤ i → ⊥ = λ h.
     g (take_all (8 * (i + 1)) ts (omega (arith, has_room log)) ∙ sym (take_all (8 * i) ts (omega (arith, has_room log))) ∙ f
     ∙ take_all (8 * i) (plain log) (omega (arith, has_room log)) ∙ sym (take_all (8 * (i + 1)) (plain log) (omega (arith, has_room log)))) in

@@ -2,8 +2,8 @@
 use mathlib.Core.List.{List}
 use Prim.Native.Nat.{ℕ}
 use Rattle.io.specs.Counts.{IsPrefixLen}
-use Rattle.printed.proofs.Prints.{put-counts}
-use Rattle.judge_print.specs.Verdicts.{verdictText, VerdictSaid}
+use Rattle.printed.proofs.Prints.{put_counts}
+use Rattle.judge_print.specs.Verdicts.{verdict_text, VerdictSaid}
 
-pub verdict-counts : (log ts out out' : List ℕ) (n : ℕ) → VerdictSaid log ts out out' n → IsPrefixLen n out'
-verdict-counts log ts out out' n x = put-counts out out' (verdictText x.0) n x.2
+pub verdict_counts : (log ts out out' : List ℕ) (n : ℕ) → VerdictSaid log ts out out' n → IsPrefixLen n out'
+verdict_counts log ts out out' n x = put_counts out out' (verdict_text x.0) n x.2

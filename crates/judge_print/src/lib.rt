@@ -1,13 +1,13 @@
 // What `rvz judge` prints: the verdict on the transcript in a file, by the log on standard input.
 ghost use Rattle.io.specs.Counts.{IsPrefixLen};
 ghost use Rattle.decimal.specs.Put.{Put};
-ghost use Rattle.judge_print.specs.Verdicts.{verdictText, VerdictSaid};
+ghost use Rattle.judge_print.specs.Verdicts.{verdict_text, VerdictSaid};
 
 use libc::STDIN_FILENO;
 use transcript::Verdict;
 
 fn say_verdict(text: &mut [u8], verdict: Verdict) -> usize
-    ensures { Put text.old 0 (verdictText verdict) text.new result }
+    ensures { Put text.old 0 (verdict_text verdict) text.new result }
 {
     match verdict {
         Verdict::Same => text::put_word(text, 0, b"same\n"),

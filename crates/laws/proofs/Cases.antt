@@ -22,8 +22,8 @@ arm f x y o e q = q ∙ ap f (sym e)
 
 -- what holds of both cases holds of the rule, each with what its test says
 module _ {A : Type 0} (Q : A → Type 0) {x y : A} (m n : ℕ) where
-  pub by-lt : (m < n → Q x) → (n ≤ m → Q y) → Q (cond (ltb m n) x y)
-  by-lt h l = by (ltb m n) refl
+  pub by_lt : (m < n → Q x) → (n ≤ m → Q y) → Q (cond (ltb m n) x y)
+  by_lt h l = by (ltb m n) refl
     where
       by : (b : Bool) → ltb m n ≡ b → Q (cond b x y)
       by true e = h (ltb-true m n e)

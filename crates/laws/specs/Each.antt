@@ -3,6 +3,6 @@
 use Rattle.std.specs.Prelude.{ℕ, suc, List, [], ◌∷◌}
 
 -- f of each element and its place, of which the first is k
-unfoldable pub mapFrom : {X : Type 0} → (ℕ → X → X) → ℕ → List X → List X
-mapFrom f k [] = []
-mapFrom f k (x ∷ xs) = f k x ∷ mapFrom f (suc k) xs
+unfoldable pub map_from : {X : Type 0} → (ℕ → X → X) → ℕ → List X → List X
+map_from f k [] = []
+map_from f k (x ∷ xs) = f k x ∷ map_from f (suc k) xs

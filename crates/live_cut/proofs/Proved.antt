@@ -10,91 +10,91 @@ use lib.Dec.{eqb}
 use lib.ListN.{length, take, drop, take-append-drop, length-drop, drop_of_length-le}
 use lib.Seq.{length-take-le}
 use borrow.Author.Tests.{eq-eqb, ne_eqb}
-use Rattle.fold.specs.Output.{stopOf, number_of}
+use Rattle.fold.specs.Output.{stop_of, number_of}
 use Rattle.fold.specs.Device.{records}
-use Rattle.fold.specs.Stream.{wholes, leftOver}
-use Rattle.fold.proofs.Streams.{records-front}
-use Rattle.edition.specs.Edition.{editionOf}
-use Rattle.trailer.specs.Trailer.{trailerOf, recordsAt, editionAt}
+use Rattle.fold.specs.Stream.{wholes, left_over}
+use Rattle.fold.proofs.Streams.{records_front}
+use Rattle.edition.specs.Edition.{edition_of}
+use Rattle.trailer.specs.Trailer.{trailer_of, records_at, edition_at}
 use Rattle.trailer.specs.declared.Trailer.{Trailer}
 use Rattle.trailer.specs.declared.Trailer.TheVariants.{Found}
 use Rattle.trailer.proofs.Laws.{ends}
-use Rattle.bank.specs.Bank.{encoderAt}
+use Rattle.bank.specs.Bank.{encoder_at}
 use Rattle.banks.specs.declared.State.{State}
-use Rattle.banks.specs.State.{bankAt}
-use Rattle.replay.specs.Replay.{played, replayOf}
+use Rattle.banks.specs.State.{bank_at}
+use Rattle.replay.specs.Replay.{played, replay_of}
 use Rattle.replay.proofs.Numbers.{small}
 use Rattle.replay.proofs.Proved.{replayed}
-use Rattle.travel.specs.Stretch.{pinsIn, encoderAfter}
+use Rattle.travel.specs.Stretch.{pins_in, encoder_after}
 use Rattle.travel.specs.Demand.{Demand}
-use Rattle.travel.proofs.Proved.{demand-of-runs}
+use Rattle.travel.proofs.Proved.{demand_of_runs}
 use Rattle.live_state.specs.Live.{Live, Taken, fresh_of, taken_of, chunk_of, end_of}
 use Rattle.live_state.proofs.Ways.{Way, again, taken, not_taken, way}
 use Rattle.live_state.proofs.Ways as ways
-use Rattle.live_cut.specs.Cut.{Lent, bytesIn, streamed, Roomy}
+use Rattle.live_cut.specs.Cut.{Lent, bytes_in, streamed, Roomy}
 use Rattle.live_cut.specs.Facts.{Cuts}
-use Rattle.live_cut.proofs.Chunks.{stays, taken-not-six, all-at-once}
+use Rattle.live_cut.proofs.Chunks.{stays, taken_not_six, all_at_once}
 
-any-cut : (e : ℕ) (cs : List Lent) → Roomy (fresh_of e) cs → streamed (fresh_of e) cs ≡ taken_of (fresh_of e) (bytesIn cs)
-any-cut e cs h = all-at-once (fresh_of e) cs (record { none = refl; few = omega arith; small = omega arith }) h
+any_cut : (e : ℕ) (cs : List Lent) → Roomy (fresh_of e) cs → streamed (fresh_of e) cs ≡ taken_of (fresh_of e) (bytes_in cs)
+any_cut e cs h = all_at_once (fresh_of e) cs (record { none = refl; few = omega arith; small = omega arith }) h
 
-left-long : (b : List ℕ) → length (leftOver 16 b) ≡ length b % 16
-left-long b = omega (arith, length-drop (16 * (length b / 16)) b)
+left_long : (b : List ℕ) → length (left_over 16 b) ≡ length b % 16
+left_long b = omega (arith, length-drop (16 * (length b / 16)) b)
 
-end-of-one : (e : ℕ) (b : List ℕ) → (taken_of (fresh_of e) b).refused ≡ 0 → end_of (taken_of (fresh_of e) b).live ≡ cond (eqb (length b % 16) 0) 0 5
+end_of_one : (e : ℕ) (b : List ℕ) → (taken_of (fresh_of e) b).refused ≡ 0 → end_of (taken_of (fresh_of e) b).live ≡ cond (eqb (length b % 16) 0) 0 5
 unfolding taken_of
-end-of-one e b g = rw (eq-eqb (number_of (played (editionOf e) (wholes 16 b)).course) 0 g) (ap (λ (n : ℕ). cond (eqb n 0) 0 5) (left-long b))
+end_of_one e b g = rw (eq-eqb (number_of (played (edition_of e) (wholes 16 b)).course) 0 g) (ap (λ (n : ℕ). cond (eqb n 0) 0 5) (left_long b))
 
 -- ---- a log's records
 
-module _ (log : List ℕ) (a n e : ℕ) (found : trailerOf log ≡ Found a n e) where
+module _ (log : List ℕ) (a n e : ℕ) (found : trailer_of log ≡ Found a n e) where
   abbrev all : List ℕ
   all = take (16 * n) (drop a log)
 
   long : length all ≡ 16 * n
   long = length-take-le (16 * n) (drop a log) (omega (arith, length-drop a log, ends log a n e found))
 
-  log-records : wholes 16 all ≡ records 16 n (drop a log)
-  log-records =
+  log_records : wholes 16 all ≡ records 16 n (drop a log)
+  log_records =
       let count : length all / 16 ≡ n = omega (arith, long) in
       ap (λ (k : ℕ). records 16 k all) count
-      ∙ sym (records-front 16 n all (drop (16 * n) (drop a log)) (omega (arith, long)))
+      ∙ sym (records_front 16 n all (drop (16 * n) (drop a log)) (omega (arith, long)))
       ∙ ap (records 16 n) (take-append-drop (16 * n) (drop a log))
 
-  none_left : (b : Bool) → cond b (leftOver 16 all) [] ≡ []
+  none_left : (b : Bool) → cond b (left_over 16 all) [] ≡ []
   none_left true = drop_of_length-le all {i = 16 * (length all / 16)} (omega (arith, long))
   none_left false = refl
 
-six-leaves : (s : Live) (b : List ℕ) (room : ℕ) → (chunk_of s b room).refused ≡ 6 → chunk_of s b room ≡ record { live = s; refused = 6; readings = [] }
-six-leaves s b room h = by (way s b room)
+six_leaves : (s : Live) (b : List ℕ) (room : ℕ) → (chunk_of s b room).refused ≡ 6 → chunk_of s b room ≡ record { live = s; refused = 6; readings = [] }
+six_leaves s b room h = by (way s b room)
   where
     by : Way s b room → chunk_of s b room ≡ record { live = s; refused = 6; readings = [] }
     by (again some e) = e ∙ ap {B = Taken} (λ (k : ℕ). record { live = s; refused = k; readings = [] }) (sym (ap (λ (t : Taken). t.refused) e) ∙ h)
-    by (taken none e) = absurd (taken-not-six s b (sym (ap (λ (t : Taken). t.refused) e) ∙ h))
+    by (taken none e) = absurd (taken_not_six s b (sym (ap (λ (t : Taken). t.refused) e) ∙ h))
     by (not_taken none e) = e
 
 -- ---- the facts
 
 pub cuts : Cuts
-unfolding taken_of stopOf
+unfolding taken_of stop_of
 cuts = record {
-  any-cut = any-cut;
-  end-of-all = λ e cs h g.
-      let one = any-cut e cs h in
-      ap (λ (t : Taken). end_of t.live) one ∙ end-of-one e (bytesIn cs) (sym (ap (λ (t : Taken). t.refused) one) ∙ g);
-  of-logs = λ log room a n e cs found enough is h.
-      let x = replayOf log room in
-      let same : played (editionOf e) (wholes 16 (all log a n e found)) ≡ x =
-      ap₂ played (ap editionAt (sym found)) (log-records log a n e found ∙ ap (λ (t : Trailer). recordsAt t log) (sym found))
+  any_cut = any_cut;
+  end_of_all = λ e cs h g.
+      let one = any_cut e cs h in
+      ap (λ (t : Taken). end_of t.live) one ∙ end_of_one e (bytes_in cs) (sym (ap (λ (t : Taken). t.refused) one) ∙ g);
+  of_logs = λ log room a n e cs found enough is h.
+      let x = replay_of log room in
+      let same : played (edition_of e) (wholes 16 (all log a n e found)) ≡ x =
+      ap₂ played (ap edition_at (sym found)) (log_records log a n e found ∙ ap (λ (t : Trailer). records_at t log) (sym found))
       ∙ sym (replayed log a n e room found enough) in
-      let few : x.applied % 2 ^ 64 ≡ x.applied = mod-eq_of_lt (omega (arith, small log room (stopOf x) refl)) in
-      any-cut e cs h
+      let few : x.applied % 2 ^ 64 ≡ x.applied = mod-eq_of_lt (omega (arith, small log room (stop_of x) refl)) in
+      any_cut e cs h
       ∙ ap (taken_of (fresh_of e)) is
       ∙ rw (same, none_left log a n e found (eqb (number_of x.course) 0), zero-add x.applied, few);
-  six-leaves = six-leaves;
-  refused-again = λ s cs b room h. (stays s cs h, ways.refused-again s b room h, rw (ne_eqb s.refused 0 h));
+  six_leaves = six_leaves;
+  refused_again = λ s cs b room h. (stays s cs h, ways.refused_again s b room h, rw (ne_eqb s.refused 0 h));
   demand = λ e k i cs before r rs h cut st.
-      subst (λ (x : State). Demand (pinsIn k i (r ∷ rs)) (encoderAfter (editionOf e) k i (before ++ r ∷ [])).count (encoderAt i (bankAt k x)).count)
-      (ap (λ (l : List (List ℕ)). (played (editionOf e) l).state) (sym cut) ∙ sym (ap (λ (t : Taken). t.live.state) (any-cut e cs h)))
-      (demand-of-runs (editionOf e) k i before r rs st);
+      subst (λ (x : State). Demand (pins_in k i (r ∷ rs)) (encoder_after (edition_of e) k i (before ++ r ∷ [])).count (encoder_at i (bank_at k x)).count)
+      (ap (λ (l : List (List ℕ)). (played (edition_of e) l).state) (sym cut) ∙ sym (ap (λ (t : Taken). t.live.state) (any_cut e cs h)))
+      (demand_of_runs (edition_of e) k i before r rs st);
 }

@@ -10,8 +10,8 @@ pub record Lent : Type 0 where
   pub room : ℕ
 
 -- the bytes of all chunks, one chunk after the other
-abbrev pub bytesIn : List Lent → List ℕ
-bytesIn cs = flatten (map (λ (c : Lent). c.bytes) cs)
+abbrev pub bytes_in : List Lent → List ℕ
+bytes_in cs = flatten (map (λ (c : Lent). c.bytes) cs)
 
 -- what chunk after chunk comes to: the stream afterwards, its refusal, and the readings, one after the other
 unfoldable pub streamed : Live → List Lent → Taken

@@ -2,9 +2,9 @@
 ghost use Rattle.std.specs.Prelude.{◌≡◌, ◌+◌, ◌*◌, ◌<◌, ◌≤◌, length, drop, nat_le};
 ghost use Rattle.std.proofs.Math.Seq.{paste};
 ghost use Rattle.fold.specs.Device.{records};
-ghost use Rattle.wire.specs.Decode.{readsIn};
+ghost use Rattle.wire.specs.Decode.{reads_in};
 ghost use Rattle.live_state.specs.Live.{fresh_of, taken_of, end_of};
-ghost use Rattle.live_state.specs.How.{finished, live_of, walkedTo, Good};
+ghost use Rattle.live_state.specs.How.{finished, live_of, walked_to, Good};
 
 use banks::Flat;
 use std::num::wrapping_add_u64;
@@ -69,7 +69,7 @@ pub fn walked_to(
     carried: [u8; 16],
     held: usize,
 ) -> Chunked
-    ensures { result ≡ walkedTo edition applied walked carried held }
+    ensures { result ≡ walked_to edition applied walked carried held }
 {
     let flat = walked.flat;
     let stop = walked.stop;
@@ -115,7 +115,7 @@ pub fn carry(s: Stream, bytes: &[u8]) -> Stream
 pub fn has_room(begun: usize, bytes: &[u8], at: usize, n: usize, room: usize) -> bool
     requires begun_bound { begun ≤ 1 }
     requires n_in_bounds { at + 16 * n ≤ length bytes.now }
-    ensures { result ≡ nat_le (8 * (begun + readsIn (records 16 n (drop at bytes.now)))) room }
+    ensures { result ≡ nat_le (8 * (begun + reads_in (records 16 n (drop at bytes.now)))) room }
 {
     if n < room / 8 {
         return true;

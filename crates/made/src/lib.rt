@@ -1,6 +1,6 @@
 // What is made of a log that replays, in a lent buffer: its dump, the smaller log.
 ghost use Rattle.std.specs.Prelude.{◌≡◌, length};
-ghost use Rattle.made.specs.How.{source_of, handedOf, handedIn};
+ghost use Rattle.made.specs.How.{source_of, handed_of, handed_in};
 
 use trailer::Trailer;
 
@@ -53,8 +53,8 @@ pub fn source_of(log: &[u8]) -> Source
 
 // Bytes made in a buffer of our own, so that 6 writes nothing.
 pub fn hand_out(bytes: &[u8], out: &mut [u8]) -> Made
-    ensures value { result ≡ handedOf bytes.now (length out.old) }
-    ensures out_after { out.new ≡ handedIn bytes.now out.old }
+    ensures value { result ≡ handed_of bytes.now (length out.old) }
+    ensures out_after { out.new ≡ handed_in bytes.now out.old }
 {
     if out.len() < bytes.len() {
         return Made {

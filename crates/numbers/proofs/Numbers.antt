@@ -18,23 +18,23 @@ le_join (suc m) n s at =
     let h = mul_assoc 256 (256 ^ m) (le_of n s (suc at + m)) in
     rw (suc-add m n, le_join m n s (suc at), pow-succ' 256 m, add-suc at m, ← suc-add at m) (omega (arith, h))
 
-pub le-two : (s : List ℕ) (at a b : ℕ) → a ≡ byte s at → b ≡ byte s (at + 1) → a + 256 * b ≡ le_of 2 s at
+pub le_two : (s : List ℕ) (at a b : ℕ) → a ≡ byte s at → b ≡ byte s (at + 1) → a + 256 * b ≡ le_of 2 s at
 unfolding le_of
-le-two s at a b p q = rw (p, q, add-one at) (omega arith)
+le_two s at a b p q = rw (p, q, add-one at) (omega arith)
 
 -- behind other bytes
-pub le-behind : (n : ℕ) (p s : List ℕ) (at : ℕ) → le_of n (p ++ s) (length p + at) ≡ le_of n s at
+pub le_behind : (n : ℕ) (p s : List ℕ) (at : ℕ) → le_of n (p ++ s) (length p + at) ≡ le_of n s at
 unfolding le_of
-le-behind zero p s at = refl
-le-behind (suc n) p s at = rw (get_or-append-add p s at 0, ← add-suc (length p) at, le-behind n p s (suc at))
+le_behind zero p s at = refl
+le_behind (suc n) p s at = rw (get_or-append-add p s at 0, ← add-suc (length p) at, le_behind n p s (suc at))
 
 -- a number of n bytes is what its bytes say
-pub le-bytes : (n v : ℕ) (rest : List ℕ) → v < 256 ^ n → le_of n (le_bytes n v ++ rest) 0 ≡ v
+pub le_bytes_lem : (n v : ℕ) (rest : List ℕ) → v < 256 ^ n → le_of n (le_bytes n v ++ rest) 0 ≡ v
 unfolding le_of
-le-bytes zero v rest h = omega arith
-le-bytes (suc n) v rest h =
+le_bytes_lem zero v rest h = omega arith
+le_bytes_lem (suc n) v rest h =
     let small : v / 256 < 256 ^ n = (div-lt_iff_lt-mul {k = 256} {x = v} {y = 256 ^ n} (omega arith)).1 (rw pow-suc at h) in
-    rw (le-behind n (v % 256 ∷ []) (le_bytes n (v / 256) ++ rest) 0, le-bytes n (v / 256) rest small) (omega arith)
+    rw (le_behind n (v % 256 ∷ []) (le_bytes n (v / 256) ++ rest) 0, le_bytes_lem n (v / 256) rest small) (omega arith)
 
 -- n bytes are those of their number
 pub bytes_le : (n : ℕ) (s : List ℕ) (at : ℕ) → ((i : ℕ) → byte s i < 256) → at + n ≤ length s → le_bytes n (le_of n s at) ≡ take n (drop at s)
@@ -48,12 +48,12 @@ bytes_le (suc n) s at b h =
 pub le_four : (s : List ℕ) (at a b : ℕ) → a ≡ le_of 2 s at → b ≡ le_of 2 s (at + 2) → a + 65536 * b ≡ le_of 4 s at
 le_four s at a b p q = rw (p, q) (sym (le_join 2 2 s at))
 
-pub le-eight : (s : List ℕ) (at a b : ℕ) → a ≡ le_of 4 s at → b ≡ le_of 4 s (at + 4) → a + 4294967296 * b ≡ le_of 8 s at
-le-eight s at a b p q = rw (p, q) (sym (le_join 4 4 s at))
+pub le_eight : (s : List ℕ) (at a b : ℕ) → a ≡ le_of 4 s at → b ≡ le_of 4 s (at + 4) → a + 4294967296 * b ≡ le_of 8 s at
+le_eight s at a b p q = rw (p, q) (sym (le_join 4 4 s at))
 
 -- eight bytes stored are four and then four
-pub two-fours : (l m n : List ℕ) (at v : ℕ) → m ≡ sets l at (le_bytes 4 v) → n ≡ sets m (at + 4) (le_bytes 4 (v / 4294967296))
+pub two_fours : (l m n : List ℕ) (at v : ℕ) → m ≡ sets l at (le_bytes 4 v) → n ≡ sets m (at + 4) (le_bytes 4 (v / 4294967296))
     → n ≡ sets l at (le_bytes 8 v)
-two-fours l m n at v p q =
+two_fours l m n at v p q =
     let e : v / 4294967296 ≡ v / 256 / 256 / 256 / 256 = omega arith in
     q ∙ rw (p, e, add-four at)

@@ -1,8 +1,8 @@
 // Whether a record is refused, or where it goes in the flat arrays, and what it does to the one element that is there.
 ghost use Rattle.std.specs.Prelude.{◌≡◌, ◌<◌};
-ghost use Rattle.encoder.specs.Encoder.{onPins, onCnfg};
-ghost use Rattle.pwm.specs.Pwm.{onWrite};
-ghost use Rattle.placed.specs.How.{Bounded, Inside, spot_of, placed_of, i2cAfter};
+ghost use Rattle.encoder.specs.Encoder.{on_pins, on_cnfg};
+ghost use Rattle.pwm.specs.Pwm.{on_write};
+ghost use Rattle.placed.specs.How.{Bounded, Inside, spot_of, placed_of, i2c_after};
 
 use edition::Edition;
 use encoder::Encoder;
@@ -72,28 +72,28 @@ pub fn place(edition: Edition, select: u64, c: I2c, bank: usize, r: Record) -> P
 
 pub fn pins(e: Encoder, v: u64) -> Encoder
     requires { v < 256 }
-    ensures { result ≡ onPins v e }
+    ensures { result ≡ on_pins v e }
 {
     e.pins(v as u8)
 }
 
 pub fn cnfg(e: Encoder, v: u64) -> Encoder
     requires { v < 4294967296 }
-    ensures { result ≡ onCnfg v e }
+    ensures { result ≡ on_cnfg v e }
 {
     e.write_cnfg(v as u32)
 }
 
 pub fn write(p: Pwm, register: u64, v: u64) -> Pwm
     requires { v < 65536 }
-    ensures { result ≡ onWrite register v p }
+    ensures { result ≡ on_write register v p }
 {
     p.write(register, v as u16)
 }
 
 pub fn i2c_after(c: I2c, r: Record) -> I2c
     requires { Bounded r }
-    ensures { result ≡ i2cAfter c r }
+    ensures { result ≡ i2c_after c r }
 {
     match r {
         Record::WriteI2c(register, value) => c.write(register, value as u8),

@@ -10,11 +10,11 @@ use lib.Seq.{take_at, length-take-le}
 use borrow.Author.Tests.{eq-eqb, ne_eqb, ltb-true, ltb-false}
 use Rattle.decimal.specs.Ascii.{ascii}
 use Rattle.io.specs.Counts.{IsPrefixLen}
-use Rattle.decimal.specs.Digits.{digitsOf}
+use Rattle.decimal.specs.Digits.{digits_of}
 use Rattle.decimal.specs.Put.{Put}
-use Rattle.decimal.proofs.Back.{twenty-digits}
-use Rattle.decimal.proofs.Puts.{put_whole, put-long}
-use Rattle.text.specs.Text.{refusedText, refusedRecordText}
+use Rattle.decimal.proofs.Back.{twenty_digits}
+use Rattle.decimal.proofs.Puts.{put_whole, put_long}
+use Rattle.text.specs.Text.{refused_text, refused_record_text}
 use Rattle.printed.specs.declared.Printed.{Printed}
 use Rattle.printed.specs.Printed.{Prints, Printing}
 
@@ -22,46 +22,46 @@ use Rattle.printed.specs.Printed.{Prints, Printing}
 pub fronts : (s rest : List ℕ) → IsPrefixLen (length s) (s ++ rest)
 fronts s rest = let h : length s ≤ length (s ++ rest) = omega (arith, length-append s rest) in (h, sym (length-take-le (length s) (s ++ rest) h))
 
-pub put-counts : (a b s : List ℕ) (n : ℕ) → Put a 0 s b n → IsPrefixLen n b
-put-counts a b s n x = let h : n ≤ length b = omega (arith, x.place, put-long a b s 0 n x) in (h, sym (length-take-le n b h))
+pub put_counts : (a b s : List ℕ) (n : ℕ) → Put a 0 s b n → IsPrefixLen n b
+put_counts a b s n x = let h : n ≤ length b = omega (arith, x.place, put_long a b s 0 n x) in (h, sym (length-take-le n b h))
 
 -- a text by the case that it is of
 pub arm : {A : Type 0} (f : A → List ℕ) (a b : A) (out out' : List ℕ) (n : ℕ) → a ≡ b → Put out 0 (f b) out' n → Put out 0 (f a) out' n
 arm f a b out out' n e x = rw e x
 
 -- how long the two refusals are
-refused-short : (k : ℕ) → k < 2 ^ 64 → length (refusedText k) ≤ 29
-refused-short k h = omega (arith, length-append (ascii "refused " ++ digitsOf k) (10 ∷ []), length-append (ascii "refused ") (digitsOf k), twenty-digits k h)
+refused_short : (k : ℕ) → k < 2 ^ 64 → length (refused_text k) ≤ 29
+refused_short k h = omega (arith, length-append (ascii "refused " ++ digits_of k) (10 ∷ []), length-append (ascii "refused ") (digits_of k), twenty_digits k h)
 
-record-short : (k i : ℕ) → k < 2 ^ 64 → i < 2 ^ 64 → length (refusedRecordText k i) ≤ 57
-record-short k i h l =
-    let first = ascii "refused " ++ digitsOf k in
-    omega (arith, length-append (first ++ ascii " record " ++ digitsOf i) (10 ∷ []), length-append (first ++ ascii " record ") (digitsOf i), length-append first (ascii " record "), length-append (ascii "refused ") (digitsOf k), twenty-digits k h, twenty-digits i l)
+record_short : (k i : ℕ) → k < 2 ^ 64 → i < 2 ^ 64 → length (refused_record_text k i) ≤ 57
+record_short k i h l =
+    let first = ascii "refused " ++ digits_of k in
+    omega (arith, length-append (first ++ ascii " record " ++ digits_of i) (10 ∷ []), length-append (first ++ ascii " record ") (digits_of i), length-append first (ascii " record "), length-append (ascii "refused ") (digits_of k), twenty_digits k h, twenty_digits i l)
 
 -- a call has left `mid`: the text's bytes in front of others, n of them, or was refused by k
 module _ (k i n : ℕ) (text rest mid out' : List ℕ) (p : Printed) (x : Printing k i n mid out' p) where
   -- whatever the index, which is then not told
-  pub prints-made : (j : ℕ) → k ≡ 0 → n ≡ length text → mid ≡ text ++ rest → Prints k j text out' p
-  prints-made j z m e =
+  pub prints_made : (j : ℕ) → k ≡ 0 → n ≡ length text → mid ≡ text ++ rest → Prints k j text out' p
+  prints_made j z m e =
       let q : p ≡ record { size = length text; refused = false } = (x.made z).0 ∙ ap {B = Printed} (λ (y : ℕ). record { size = y; refused = false }) m in
       let o : out' ≡ text ++ rest = (x.made z).1 ∙ e in
       rw (q, o) (record { counts = fronts text rest; bytes = rw (eq-eqb k 0 z) (take_at text rest (length text) refl); where_to = rw (eq-eqb k 0 z) })
 
-  pub prints-refused : (k ≡ 0 → ⊥) → k < 2 ^ 64 → i < 2 ^ 64 → 57 ≤ length mid → Prints k i text out' p
-  prints-refused nz ks is room = by (ltb k 7) refl
+  pub prints_refused : (k ≡ 0 → ⊥) → k < 2 ^ 64 → i < 2 ^ 64 → 57 ≤ length mid → Prints k i text out' p
+  prints_refused nz ks is room = by (ltb k 7) refl
     where
       by : (t : Bool) → ltb k 7 ≡ t → Prints k i text out' p
       by true e =
           let w = x.log nz (ltb-true k 7 e) in
           record {
-            counts = put-counts mid out' (refusedText k) p.size w;
-            bytes = rw (ne_eqb k 0 nz, e) (put_whole mid (refusedText k) out' p.size w (omega (arith, refused-short k ks))).1;
+            counts = put_counts mid out' (refused_text k) p.size w;
+            bytes = rw (ne_eqb k 0 nz, e) (put_whole mid (refused_text k) out' p.size w (omega (arith, refused_short k ks))).1;
             where_to = rw (ne_eqb k 0 nz) (x.says nz);
           }
       by false e =
-          let w = x.of-record (ltb-false k 7 e) in
+          let w = x.of_record (ltb-false k 7 e) in
           record {
-            counts = put-counts mid out' (refusedRecordText k i) p.size w;
-            bytes = rw (ne_eqb k 0 nz, e) (put_whole mid (refusedRecordText k i) out' p.size w (omega (arith, record-short k i ks is))).1;
+            counts = put_counts mid out' (refused_record_text k i) p.size w;
+            bytes = rw (ne_eqb k 0 nz, e) (put_whole mid (refused_record_text k i) out' p.size w (omega (arith, record_short k i ks is))).1;
             where_to = rw (ne_eqb k 0 nz) (x.says nz);
           }

@@ -5,23 +5,23 @@ use Prim.Native.Nat.{ℕ, suc, ◌*◌, ◌/◌, ◌^◌, ◌<◌}
 use native.Mathlib.Omega.{arith}
 use lib.ListN.{length, get_or}
 use Rattle.fold.specs.Output.{bytes_of}
-use Rattle.fold.proofs.Written.{length-bytes}
+use Rattle.fold.proofs.Written.{length_bytes}
 use Rattle.numbers.specs.Bytes.{le_bytes}
-use Rattle.numbers.proofs.Numbers.{le-bytes}
-use Rattle.text.specs.Text.{numbersIn, readingsIn}
+use Rattle.numbers.proofs.Numbers.{le_bytes_lem}
+use Rattle.text.specs.Text.{numbers_in, readings_in}
 
-pub long-bytes : (vs : List ℕ) → length (bytes_of (le_bytes 8) vs) ≡ 8 * length vs
-long-bytes vs = length-bytes (le_bytes 8) (λ v. refl) vs
+pub long_bytes : (vs : List ℕ) → length (bytes_of (le_bytes 8) vs) ≡ 8 * length vs
+long_bytes vs = length_bytes (le_bytes 8) (λ v. refl) vs
 
-numbers-back : (vs : List ℕ) → ((i : ℕ) → get_or vs i 0 < 2 ^ 64) → numbersIn (length vs) (bytes_of (le_bytes 8) vs) ≡ vs
-unfolding numbersIn bytes_of
-numbers-back [] h = refl
-numbers-back (v ∷ vs) h =
-    let e = le-bytes 8 v (bytes_of (le_bytes 8) vs) (h 0) in
-    let r = numbers-back vs (λ i. h (suc i)) in
+numbers_back : (vs : List ℕ) → ((i : ℕ) → get_or vs i 0 < 2 ^ 64) → numbers_in (length vs) (bytes_of (le_bytes 8) vs) ≡ vs
+unfolding numbers_in bytes_of
+numbers_back [] h = refl
+numbers_back (v ∷ vs) h =
+    let e = le_bytes_lem 8 v (bytes_of (le_bytes 8) vs) (h 0) in
+    let r = numbers_back vs (λ i. h (suc i)) in
     cc
 
-pub readings-back : (vs : List ℕ) → ((i : ℕ) → get_or vs i 0 < 2 ^ 64) → readingsIn (bytes_of (le_bytes 8) vs) ≡ vs
-readings-back vs h =
-    let e : length (bytes_of (le_bytes 8) vs) / 8 ≡ length vs = omega (arith, long-bytes vs) in
-    ap (λ (n : ℕ). numbersIn n (bytes_of (le_bytes 8) vs)) e ∙ numbers-back vs h
+pub readings_back : (vs : List ℕ) → ((i : ℕ) → get_or vs i 0 < 2 ^ 64) → readings_in (bytes_of (le_bytes 8) vs) ≡ vs
+readings_back vs h =
+    let e : length (bytes_of (le_bytes 8) vs) / 8 ≡ length vs = omega (arith, long_bytes vs) in
+    ap (λ (n : ℕ). numbers_in n (bytes_of (le_bytes 8) vs)) e ∙ numbers_back vs h

@@ -3,19 +3,19 @@ use Rattle.std.specs.Prelude.{◌≡◌, true, false, not, cond, List, ℕ, ◌�
 use Rattle.io.specs.Counts.{IsPrefixLen}
 use Rattle.decimal.specs.Put.{Put}
 use Rattle.fold.specs.Output.{number_of}
-use Rattle.text.specs.Text.{refusedText, refusedRecordText}
+use Rattle.text.specs.Text.{refused_text, refused_record_text}
 use Rattle.replay.specs.Replay.{replayed}
 use Rattle.printed.specs.declared.Printed.{Printed}
 
 -- "a refusal leaves standard output empty and is told on standard error (`refused R`, for a record with ` record I`)": a record is
 -- refused by 7 and above. k is the refusal, 0 if none, i the record's index
-abbrev pub printedBy : ℕ → ℕ → List ℕ → List ℕ
-printedBy k i text = cond (eqb k 0) text (cond (ltb k 7) (refusedText k) (refusedRecordText k i))
+abbrev pub printed_by : ℕ → ℕ → List ℕ → List ℕ
+printed_by k i text = cond (eqb k 0) text (cond (ltb k 7) (refused_text k) (refused_record_text k i))
 
 -- the bytes that are written, and where
 pub record Prints (k i : ℕ) (text out' : List ℕ) (p : Printed) : Type 0 where
   pub counts : IsPrefixLen p.size out'
-  pub bytes : take p.size out' ≡ printedBy k i text
+  pub bytes : take p.size out' ≡ printed_by k i text
   pub where_to : p.refused ≡ not (eqb k 0)
 
 -- what is said to arguments that are wrong
@@ -31,6 +31,6 @@ MadePrinted make log out' p = Prints (number_of (replayed log).course) (replayed
 -- what `told` does to the text behind a call that has left n bytes in it
 pub record Printing (k i n : ℕ) (out out' : List ℕ) (p : Printed) : Type 0 where
   pub made : k ≡ 0 → (p ≡ record { size = n; refused = false }) × (out' ≡ out)
-  pub log : (k ≡ 0 → ⊥) → k < 7 → Put out 0 (refusedText k) out' p.size
-  pub of-record : 7 ≤ k → Put out 0 (refusedRecordText k i) out' p.size
+  pub log : (k ≡ 0 → ⊥) → k < 7 → Put out 0 (refused_text k) out' p.size
+  pub of_record : 7 ≤ k → Put out 0 (refused_record_text k i) out' p.size
   pub says : (k ≡ 0 → ⊥) → p.refused ≡ true

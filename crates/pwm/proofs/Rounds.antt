@@ -8,27 +8,27 @@ use Rattle.pwm.specs.declared.Registers.{Registers}
 use Rattle.pwm.specs.declared.Wave.{Wave}
 use Rattle.pwm.specs.declared.Pwm.{Pwm}
 use Rattle.pwm.specs.Pwm.{mode, top_of, stepped}
-use Rattle.pwm.specs.How.{inv, at, left, moved, often, steps_of, climbed, wrapped, untilZero}
+use Rattle.pwm.specs.How.{inv, at, left, moved, often, steps_of, climbed, wrapped, until_zero}
 
 -- ---- a step, by where the counter stands
 
 -- MODE 1: the top is MAX, but for a counter above it that runs on
 module _ (runs : Bool) (g : Registers) (c : ℕ) (e : mode g.cnfg ≡ true) where
-  top-max : c ≤ g.max → top_of runs g c ≡ g.max
-  top-max h =
+  top_max : c ≤ g.max → top_of runs g c ≡ g.max
+  top_max h =
       ap (λ (t : Bool). cond (mode g.cnfg && not (runs && t)) g.max 65535) (le-ltb g.max c h)
       ∙ rw (e, and-false runs)
 
-  top-off : runs ≡ false → top_of runs g c ≡ g.max
-  top-off z = rw (e, z)
+  top_off : runs ≡ false → top_of runs g c ≡ g.max
+  top_off z = rw (e, z)
 
-  top-on : runs ≡ true → g.max < c → top_of runs g c ≡ 65535
-  top-on z h = rw (e, z, lt-ltb g.max c h)
+  top_on : runs ≡ true → g.max < c → top_of runs g c ≡ 65535
+  top_on z h = rw (e, z, lt-ltb g.max c h)
 
 module _ (runs : Bool) (g : Registers) (c r : ℕ) (o : Bool) where
   -- MODE 0
-  step-low : mode g.cnfg ≡ false → c < 65536 → stepped runs g (at c r o) ≡ at ((c + 1) % 65536) 0 o
-  step-low e h = by (dec_le 65535 c)
+  step_low : mode g.cnfg ≡ false → c < 65536 → stepped runs g (at c r o) ≡ at ((c + 1) % 65536) 0 o
+  step_low e h = by (dec_le 65535 c)
     where
       by : Dec (65535 ≤ c) → stepped runs g (at c r o) ≡ at ((c + 1) % 65536) 0 o
       by (yes k) =
@@ -39,13 +39,13 @@ module _ (runs : Bool) (g : Registers) (c r : ℕ) (o : Bool) where
           rw (z, e, lt-leb 65535 c (omega arith))
 
   -- MODE 1, below the top
-  step-up : mode g.cnfg ≡ true → c < top_of runs g c →
+  step_up : mode g.cnfg ≡ true → c < top_of runs g c →
       stepped runs g (at c r o) ≡ at (suc c) 0 (cond (eqb (suc c) g.cmp) (inv g.cnfg) o)
-  step-up e h = rw (lt-leb (top_of runs g c) c h, e, add-one c, ne_eqb (suc c) 0 (λ z. omega arith))
+  step_up e h = rw (lt-leb (top_of runs g c) c h, e, add-one c, ne_eqb (suc c) 0 (λ z. omega arith))
 
   -- MODE 1, at the top or above it
-  step-over : mode g.cnfg ≡ true → top_of runs g c ≤ c → stepped runs g (at c r o) ≡ wrapped g 0 0
-  step-over e h = rw (le-leb (top_of runs g c) c h, e) (by (dec_le g.cmp 0))
+  step_over : mode g.cnfg ≡ true → top_of runs g c ≤ c → stepped runs g (at c r o) ≡ wrapped g 0 0
+  step_over e h = rw (le-leb (top_of runs g c) c h, e) (by (dec_le g.cmp 0))
     where
       by : Dec (g.cmp ≤ 0) → at 0 0 (cond (eqb 0 g.cmp) (inv g.cnfg) (not (inv g.cnfg))) ≡ wrapped g 0 0
       by (yes k) = rw (eq-eqb 0 g.cmp (omega arith), le-leb g.cmp 0 k)
@@ -71,10 +71,10 @@ unmet c x i o = by (dec_le x c)
     by (yes h) = rw (le-ltb c x h)
     by (no h) = rw (lt-leb x c (omega arith), and-false (ltb c x))
 
-often-add : (runs : Bool) (a b : ℕ) (g : Registers) (w : Wave) → often runs (a + b) g w ≡ often runs a g (often runs b g w)
+often_add : (runs : Bool) (a b : ℕ) (g : Registers) (w : Wave) → often runs (a + b) g w ≡ often runs a g (often runs b g w)
 unfolding often
-often-add runs zero b g w = rw (zero-add b)
-often-add runs (suc a) b g w = rw (suc-add a b) (ap (stepped runs g) (often-add runs a b g w))
+often_add runs zero b g w = rw (zero-add b)
+often_add runs (suc a) b g w = rw (suc-add a b) (ap (stepped runs g) (often_add runs a b g w))
 
 -- one step more; it looks at no remainder
 further : (runs : Bool) (g : Registers) (r : ℕ) {v w x : Wave} → v ≡ w → stepped runs g w ≡ x → left r (stepped runs g v) ≡ left r x
@@ -83,30 +83,30 @@ further runs g r e f = ap (λ (w : Wave). left r (stepped runs g w)) e ∙ ap (l
 -- how far the way up goes
 module _ (runs : Bool) (g : Registers) (c s : ℕ) (e : mode g.cnfg ≡ true) where
   -- where there is a step up, the top is not reached yet
-  until-room : suc s < untilZero runs c g.max → c + s < top_of runs g (c + s)
-  until-room h = by runs (dec_le c g.max) refl
+  until_room : suc s < until_zero runs c g.max → c + s < top_of runs g (c + s)
+  until_room h = by runs (dec_le c g.max) refl
     where
       by : (b : Bool) → Dec (c ≤ g.max) → runs ≡ b → c + s < top_of runs g (c + s)
       by b (yes k) z =
           let below : c + s < g.max = omega (arith, rw (le-ltb g.max c k) at h) in
-          rw (top-max runs g (c + s) e (omega arith)) below
+          rw (top_max runs g (c + s) e (omega arith)) below
       by true (no k) z =
           let below : c + s < 65535 = omega (arith, rw (z, lt-ltb g.max c (omega arith)) at h) in
-          rw (top-on runs g (c + s) e z (omega arith)) below
+          rw (top_on runs g (c + s) e z (omega arith)) below
       by false (no k) z = absurd (omega (arith, rw (z, lt-ltb g.max c (omega arith)) at h))
 
   -- where there is none, it is
-  until-top : c < 65536 → suc s ≡ untilZero runs c g.max → top_of runs g (c + s) ≤ c + s
-  until-top l h = by runs (dec_le c g.max) refl
+  until_top : c < 65536 → suc s ≡ until_zero runs c g.max → top_of runs g (c + s) ≤ c + s
+  until_top l h = by runs (dec_le c g.max) refl
     where
       by : (b : Bool) → Dec (c ≤ g.max) → runs ≡ b → top_of runs g (c + s) ≤ c + s
       by b (yes k) z =
           let there : c + s ≡ g.max = omega (arith, rw (le-ltb g.max c k) at h) in
-          rw (top-max runs g (c + s) e (omega arith)) (omega arith)
+          rw (top_max runs g (c + s) e (omega arith)) (omega arith)
       by true (no k) z =
           let there : c + s ≡ 65535 = omega (arith, rw (z, lt-ltb g.max c (omega arith)) at h) in
-          rw (top-on runs g (c + s) e z (omega arith)) (omega arith)
-      by false (no k) z = rw (top-off runs g (c + s) e z) (omega arith)
+          rw (top_on runs g (c + s) e z (omega arith)) (omega arith)
+      by false (no k) z = rw (top_off runs g (c + s) e z) (omega arith)
 
 module _ (runs : Bool) (g : Registers) (w : Wave) where
   abbrev c : ℕ
@@ -119,14 +119,14 @@ module _ (runs : Bool) (g : Registers) (w : Wave) where
       rw z
   steps_low e h (suc s) r =
       let z : (c + suc s) % 65536 ≡ ((c + s) % 65536 + 1) % 65536 = omega arith in
-      rw z (further runs g r (steps_low e h s 0) (step-low runs g _ 0 _ e (omega arith)))
+      rw z (further runs g r (steps_low e h s 0) (step_low runs g _ 0 _ e (omega arith)))
 
-  steps_up : mode g.cnfg ≡ true → (s r : ℕ) → s < untilZero runs c g.max → steps_of runs s r g w ≡ climbed g (c + s) r w
+  steps_up : mode g.cnfg ≡ true → (s r : ℕ) → s < until_zero runs c g.max → steps_of runs s r g w ≡ climbed g (c + s) r w
   unfolding often
   steps_up e zero r h = rw (add-zero c, unmet c g.cmp (inv g.cnfg) w.output)
   steps_up e (suc s) r h =
       rw (add-suc c s)
-      (further runs g r (steps_up e s 0 (omega arith)) (step-up runs g _ 0 _ e (until-room runs g c s e h)) ∙
+      (further runs g r (steps_up e s 0 (omega arith)) (step_up runs g _ 0 _ e (until_room runs g c s e h)) ∙
       ap (at _ r) (met (ltb c g.cmp) g.cmp (c + s) (inv g.cnfg) w.output (λ z. lt-ltb c g.cmp (omega arith))))
 
 module _ (runs : Bool) (g : Registers) (e : mode g.cnfg ≡ true) where
@@ -138,9 +138,9 @@ module _ (runs : Bool) (g : Registers) (e : mode g.cnfg ≡ true) where
   round (suc m) zero zero r s h = absurd (omega (arith, zero-mul (suc g.max)))
   round (suc m) (suc q) zero r s h =
       further runs g r (round m q g.max 0 (omega (arith, suc-mul q (suc g.max))) (omega arith))
-      (step-over runs g _ 0 _ e (omega (arith, top-max runs g g.max e (omega arith))))
+      (step_over runs g _ 0 _ e (omega (arith, top_max runs g g.max e (omega arith))))
   round (suc m) q (suc k) r s h =
-      further runs g r (round m q k 0 (omega arith) (omega arith)) (step-up runs g k 0 _ e (omega (arith, top-max runs g k e (omega arith)))) ∙
+      further runs g r (round m q k 0 (omega arith) (omega arith)) (step_up runs g k 0 _ e (omega (arith, top_max runs g k e (omega arith)))) ∙
       ap (at (suc k) r) (met true g.cmp k (inv g.cnfg) _ (λ z. refl))
 
   -- m steps after the counter has gone to 0
@@ -148,30 +148,30 @@ module _ (runs : Bool) (g : Registers) (e : mode g.cnfg ≡ true) where
   after w a m r z =
       let n = suc g.max in
       let k : m % n < n = mod-lt m (omega arith) in
-      rw (often-add runs m a g w, z, add-one g.max) (round m (m / n) (m % n) r (sym (div-add-mod' m n)) (omega arith))
+      rw (often_add runs m a g w, z, add-one g.max) (round m (m / n) (m % n) r (sym (div-add-mod' m n)) (omega arith))
 
 -- ---- what the code makes of s steps
 
 -- from above MAX
 module _ (runs : Bool) (c max : ℕ) (h : max < c) where
-  pub above_on : runs ≡ true → 65536 - c ≡ untilZero runs c max
+  pub above_on : runs ≡ true → 65536 - c ≡ until_zero runs c max
   above_on z = rw (lt-ltb max c h, z)
 
-  pub above-off : runs ≡ false → 1 ≡ untilZero runs c max
-  above-off z = rw (lt-ltb max c h, z)
+  pub above_off : runs ≡ false → 1 ≡ until_zero runs c max
+  above_off z = rw (lt-ltb max c h, z)
 
 -- there is always a step to 0
-some-steps : (runs : Bool) (c max : ℕ) → c < 65536 → 0 < untilZero runs c max
-some-steps runs c max h = by runs (dec_le c max) refl
+some_steps : (runs : Bool) (c max : ℕ) → c < 65536 → 0 < until_zero runs c max
+some_steps runs c max h = by runs (dec_le c max) refl
   where
-    by : (b : Bool) → Dec (c ≤ max) → runs ≡ b → 0 < untilZero runs c max
+    by : (b : Bool) → Dec (c ≤ max) → runs ≡ b → 0 < until_zero runs c max
     by b (yes k) z = rw (le-ltb max c k) (omega arith)
     by true (no k) z = rw (z, lt-ltb max c (omega arith)) (omega arith)
     by false (no k) z = rw (z, lt-ltb max c (omega arith)) (omega arith)
 
 -- what the steps of MODE 1 ask
-pub is-mode-1 : (cnfg : ℕ) (b : Bool) → b ≡ mode cnfg → b ≡ true → mode cnfg ≡ true
-is-mode-1 cnfg b m z = sym m ∙ z
+pub is_mode_1 : (cnfg : ℕ) (b : Bool) → b ≡ mode cnfg → b ≡ true → mode cnfg ≡ true
+is_mode_1 cnfg b m z = sym m ∙ z
 
 module _ (runs : Bool) (q p : Pwm) (s r : ℕ) where
   abbrev g : Registers
@@ -189,7 +189,7 @@ module _ (runs : Bool) (q p : Pwm) (s r : ℕ) where
       let same : k ≡ (w.counter + s) % 65536 = omega arith in
       f ∙ ap (moved q) (ap (λ (x : ℕ). at x r w.output) same ∙ sym (steps_low runs g w (sym m ∙ z) h s r))
 
-  module _ (m : mode g.cnfg ≡ true) (room : ℕ) (u : room ≡ untilZero runs w.counter g.max) where
+  module _ (m : mode g.cnfg ≡ true) (room : ℕ) (u : room ≡ until_zero runs w.counter g.max) where
     pub up : s < room → p ≡ moved q (climbed g (w.counter + s) r w) → Stepped
     up h f = f ∙ ap (moved q) (sym (steps_up runs g w m s r (rw u at h)))
 
@@ -197,10 +197,10 @@ module _ (runs : Bool) (q p : Pwm) (s r : ℕ) where
     unfolding often
     at_zero l =
         let far = room - 1 in
-        let steps : room ≡ suc far = omega (arith, u, some-steps runs w.counter g.max l) in
-        let last : suc far ≡ untilZero runs w.counter g.max = sym steps ∙ u in
+        let steps : room ≡ suc far = omega (arith, u, some_steps runs w.counter g.max l) in
+        let last : suc far ≡ until_zero runs w.counter g.max = sym steps ∙ u in
         rw steps
-        (ap (stepped runs g) (steps_up runs g w m far 0 (omega (arith, last))) ∙ step-over runs g _ 0 _ m (until-top runs g w.counter far m l last))
+        (ap (stepped runs g) (steps_up runs g w m far 0 (omega (arith, last))) ∙ step_over runs g _ 0 _ m (until_top runs g w.counter far m l last))
 
     pub over : w.counter < 2 ^ 16 → room ≤ s → p ≡ moved q (wrapped g ((s - room) % (g.max + 1)) r) → Stepped
     over l h f =
@@ -210,13 +210,13 @@ module _ (runs : Bool) (q p : Pwm) (s r : ℕ) where
 -- ---- the output
 
 module _ (q p : Pwm) (k r : ℕ) where
-  pub cmp-met : (i : Bool) → (ltb q.wave.counter q.registers.cmp && leb q.registers.cmp k) ≡ true → i ≡ inv q.registers.cnfg →
+  pub cmp_met : (i : Bool) → (ltb q.wave.counter q.registers.cmp && leb q.registers.cmp k) ≡ true → i ≡ inv q.registers.cnfg →
       p ≡ moved q (at k r i) → p ≡ moved q (climbed q.registers k r q.wave)
-  cmp-met i t e f = rw (f, e, t)
+  cmp_met i t e f = rw (f, e, t)
 
-  pub cmp-unmet : (ltb q.wave.counter q.registers.cmp && leb q.registers.cmp k) ≡ false →
+  pub cmp_unmet : (ltb q.wave.counter q.registers.cmp && leb q.registers.cmp k) ≡ false →
       p ≡ moved q (at k r q.wave.output) → p ≡ moved q (climbed q.registers k r q.wave)
-  cmp-unmet t f = rw (f, t)
+  cmp_unmet t f = rw (f, t)
 
 -- set at 0 and cleared at CMP, or with INV the other way
 agree : (i b : Bool) → beq i b ≡ cond b i (not i)
@@ -232,7 +232,7 @@ agreed q p k r i e f =
     f ∙ ap (λ (o : Bool). moved q (at k r o)) (agree i b ∙ ap (λ (j : Bool). cond b j (not j)) e)
 
 -- a way up ends at MAX, where it began, or at 65,535
-module _ (runs : Bool) (c max s room : ℕ) (u : room ≡ untilZero runs c max) (h : s < room) (k : c < 2 ^ 16) (l : max < 2 ^ 16) where
+module _ (runs : Bool) (c max s room : ℕ) (u : room ≡ until_zero runs c max) (h : s < room) (k : c < 2 ^ 16) (l : max < 2 ^ 16) where
   pub up_fits : c + s < 2 ^ 16
   up_fits = by runs (dec_le c max) refl
     where
@@ -241,8 +241,8 @@ module _ (runs : Bool) (c max s room : ℕ) (u : room ≡ untilZero runs c max) 
       by true (no n) z = omega (arith, rw (z, lt-ltb max c (omega arith)) at u)
       by false (no n) z = omega (arith, rw (z, lt-ltb max c (omega arith)) at u)
 
-  pub up-fits32 : c + s < 2 ^ 32
-  up-fits32 = omega (arith, up_fits)
+  pub up_fits32 : c + s < 2 ^ 32
+  up_fits32 = omega (arith, up_fits)
 
-pub round-fits : (m max : ℕ) → max < 2 ^ 16 → m % (max + 1) < 2 ^ 16
-round-fits m max h = omega (arith, mod-lt m {m = max + 1} (omega arith))
+pub round_fits : (m max : ℕ) → max < 2 ^ 16 → m % (max + 1) < 2 ^ 16
+round_fits m max h = omega (arith, mod-lt m {m = max + 1} (omega arith))

@@ -39,5 +39,5 @@ abbrev pub wrapped : Registers → ℕ → ℕ → Wave
 wrapped g k r = at k r (cond (nat_le g.cmp k) (inv g.cnfg) (not (inv g.cnfg)))
 
 -- MODE 1: how many steps there are to 0
-abbrev pub untilZero : Bool → ℕ → ℕ → ℕ
-untilZero runs counter max = cond (nat_lt max counter) (cond runs (65536 - counter) 1) (max - counter + 1)
+abbrev pub until_zero : Bool → ℕ → ℕ → ℕ
+until_zero runs counter max = cond (nat_lt max counter) (cond runs (65536 - counter) 1) (max - counter + 1)

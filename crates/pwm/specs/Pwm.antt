@@ -2,7 +2,7 @@
 -- Assumes nothing.
 use Rattle.std.specs.Prelude.{ℕ, zero, suc, ◌+◌, Bool, false, cond, not, ◌&&◌, [], ◌∷◌, ◌==◌, nat_le, nat_lt, slice_index_or}
 use Rattle.bits.specs.Bits.{bit, num}
-use Rattle.divider.specs.Divider.{dividerOf}
+use Rattle.divider.specs.Divider.{divider_of}
 use Rattle.pwm.specs.declared.Registers.{Registers}
 use Rattle.pwm.specs.declared.Wave.{Wave}
 use Rattle.pwm.specs.declared.Pwm.{Pwm}
@@ -33,8 +33,8 @@ stepped runs g w = let next = next_of runs g w.counter in record { counter = nex
 
 -- "With CS 0 a tick does nothing. Otherwise a tick adds one to a remainder; at N the remainder is 0 and the counter steps"
 unfoldable pub ticked : Bool → Registers → Wave → Wave
-ticked runs g w = cond (dividerOf g.cs == 0) w
-    (cond (nat_lt (w.remainder + 1) (dividerOf g.cs))
+ticked runs g w = cond (divider_of g.cs == 0) w
+    (cond (nat_lt (w.remainder + 1) (divider_of g.cs))
     (record { counter = w.counter; remainder = w.remainder + 1; output = w.output }) (stepped runs g w))
 
 -- "A record of t ticks is t single ticks"
@@ -42,8 +42,8 @@ unfoldable pub waited : Bool → ℕ → Registers → Wave → Wave
 waited runs zero g w = w
 waited runs (suc t) g w = ticked runs g (waited runs t g w)
 
-abbrev pub onTicks : Bool → ℕ → Pwm → Pwm
-onTicks runs t p = record { registers = p.registers; wave = waited runs t p.registers p.wave }
+abbrev pub on_ticks : Bool → ℕ → Pwm → Pwm
+on_ticks runs t p = record { registers = p.registers; wave = waited runs t p.registers p.wave }
 
 -- ---- a write of register 0 CNFG, 1 CS, 2 MAX or 3 CMP: "No other write moves counter or output"
 
@@ -52,15 +52,15 @@ set register v g = let to : ℕ → ℕ → ℕ = λ n old. cond (register == n)
     record { cnfg = to 0 g.cnfg; cs = to 1 g.cs; max = to 2 g.max; cmp = to 3 g.cmp }
 
 -- "Writing CS sets the remainder to 0"; "Writing CNFG with MODE 0 makes the output 0"
-abbrev pub onWrite : ℕ → ℕ → Pwm → Pwm
-onWrite register v p = let output = cond (register == 0) (p.wave.output && mode v) p.wave.output in
+abbrev pub on_write : ℕ → ℕ → Pwm → Pwm
+on_write register v p = let output = cond (register == 0) (p.wave.output && mode v) p.wave.output in
     let w : Wave = record { counter = p.wave.counter; remainder = cond (register == 1) 0 p.wave.remainder; output = output } in
     record { registers = set register v p.registers; wave = w }
 
 -- ---- what is read: "0 CNFG, 1 CS, 2 MAX, 3 CMP, 4 CNTR, 5 output level"
 
-abbrev pub registerOf : ℕ → Pwm → ℕ
-registerOf register p = let g = p.registers in slice_index_or (g.cnfg ∷ g.cs ∷ g.max ∷ g.cmp ∷ p.wave.counter ∷ []) register (num p.wave.output)
+abbrev pub register_of : ℕ → Pwm → ℕ
+register_of register p = let g = p.registers in slice_index_or (g.cnfg ∷ g.cs ∷ g.max ∷ g.cmp ∷ p.wave.counter ∷ []) register (num p.wave.output)
 
 -- "Fresh state: all registers 0"
 abbrev pub fresh : Pwm

@@ -1,7 +1,7 @@
 // One PWM channel: its registers, and the wave that ticks move.
 ghost use Rattle.std.specs.Prelude.{◌≡◌, true};
-ghost use Rattle.pwm.specs.Pwm.{mode, onTicks, onWrite, registerOf, fresh};
-ghost use Rattle.pwm.specs.How.{inv, at, moved, climbed, wrapped, steps_of, untilZero};
+ghost use Rattle.pwm.specs.Pwm.{mode, on_ticks, on_write, register_of, fresh};
+ghost use Rattle.pwm.specs.How.{inv, at, moved, climbed, wrapped, steps_of, until_zero};
 ghost use Rattle.pwm.specs.Facts.{Short};
 
 use bits::number;
@@ -43,7 +43,7 @@ fn mode(cnfg: u16) -> bool
 
 // How many steps there are to 0. From above MAX it is one, or by the newer rule the way on to 65,535 and the step from there.
 fn until_zero(runs: bool, counter: u16, max: u16) -> u32
-    ensures { result ≡ untilZero runs counter max }
+    ensures { result ≡ until_zero runs counter max }
 {
     if max < counter {
         if runs {
@@ -132,7 +132,7 @@ impl Pwm {
     // (divider/proofs/Powers.antt), so that a shift divides by it.
     pub fn ticks(self, runs: bool, t: u32) -> Pwm
         requires { Short self }
-        ensures { result ≡ onTicks runs t self }
+        ensures { result ≡ on_ticks runs t self }
     {
         let place = wrapping_sub_u16(self.registers.cs, 1);
         if 6 < place {
@@ -144,7 +144,7 @@ impl Pwm {
     }
 
     fn write_cnfg(self, v: u16) -> Pwm
-        ensures { result ≡ onWrite 0 v self }
+        ensures { result ≡ on_write 0 v self }
     {
         Pwm {
             registers: Registers {
@@ -162,7 +162,7 @@ impl Pwm {
     }
 
     fn write_cs(self, v: u16) -> Pwm
-        ensures { result ≡ onWrite 1 v self }
+        ensures { result ≡ on_write 1 v self }
     {
         let remainder = 0;
         Pwm {
@@ -181,7 +181,7 @@ impl Pwm {
     }
 
     fn write_max(self, v: u16) -> Pwm
-        ensures { result ≡ onWrite 2 v self }
+        ensures { result ≡ on_write 2 v self }
     {
         let w = self.wave;
         Pwm {
@@ -196,7 +196,7 @@ impl Pwm {
     }
 
     fn write_cmp(self, v: u16) -> Pwm
-        ensures { result ≡ onWrite 3 v self }
+        ensures { result ≡ on_write 3 v self }
     {
         let w = self.wave;
         Pwm {
@@ -212,7 +212,7 @@ impl Pwm {
 
     // A write of CNFG, CS, MAX or CMP, which are 0 to 3.
     pub fn write(self, register: u64, v: u16) -> Pwm
-        ensures { result ≡ onWrite register v self }
+        ensures { result ≡ on_write register v self }
     {
         if register == 0 {
             return self.write_cnfg(v);
@@ -230,7 +230,7 @@ impl Pwm {
     }
 
     pub fn register(self, register: u64) -> u64
-        ensures { result ≡ registerOf register self }
+        ensures { result ≡ register_of register self }
     {
         if register == 0 {
             return self.registers.cnfg as u64;

@@ -5,21 +5,21 @@ use Prim.Native.Nat.{ℕ, ◌+◌, ◌-◌, ◌*◌, ◌^◌, ◌≤◌, ◌<◌
 use native.Mathlib.Nat.{mul-pos, mul-le-mul, mul-le-mul_right, eq_of_mul-eq-mul_left, le_antisymm}
 use native.Mathlib.Omega.{arith}
 use lib.Dec.{ltb, leb}
-use Rattle.laws.proofs.Cases.{by-lt, by_le}
-use Rattle.divider.specs.Divider.{dividerOf}
+use Rattle.laws.proofs.Cases.{by_lt, by_le}
+use Rattle.divider.specs.Divider.{divider_of}
 use Rattle.rate.specs.declared.Rule.{Rule}
 use Rattle.rate_counts.specs.declared.Bracket.{Bracket}
 use Rattle.rate_counts.specs.declared.Nearest.{Nearest}
 use Rattle.rate.specs.declared.Found.{Found}
 use Rattle.rate.specs.declared.Found.TheVariants.{Pair, Refused}
-use Rattle.rate.specs.Rate.{apart, period, IsPair, AsGood, Within, Wins, InRange, Outcome, outside, loose, none, pair, foundNumbers, Answer, pwm, spi}
+use Rattle.rate.specs.Rate.{apart, period, IsPair, AsGood, Within, Wins, InRange, Outcome, outside, loose, none, pair, found_numbers, Answer, pwm, spi}
 use Rattle.rate.specs.Facts.{Settled}
-use Rattle.rate_counts.specs.How.{Fit, Brackets, undividedOf, nearerOf}
-use Rattle.rate_counts.proofs.Around.{first-brackets}
+use Rattle.rate_counts.specs.How.{Fit, Brackets, undivided_of, nearer_of}
+use Rattle.rate_counts.proofs.Around.{first_brackets}
 use Rattle.rate.specs.How.{Fair, Asked, pair_of}
 use Rattle.rate_counts.proofs.Dividers.{some, one, next}
-use Rattle.rate.proofs.Order.{within-near}
-use Rattle.rate.proofs.Sides.{Least, pair-pos, some-count, fewer-best, more-best, shortened, shortened-brackets}
+use Rattle.rate.proofs.Order.{within_near}
+use Rattle.rate.proofs.Sides.{Least, pair_pos, some_count, fewer_best, more_best, shortened, shortened_brackets}
 
 -- a rate in range is such as the finder takes
 module _ (u : Rule) (fair : Fair u) (f : ℕ) (range : InRange u f) where
@@ -33,34 +33,34 @@ module _ (u : Rule) (fair : Fair u) (f : ℕ) (range : InRange u f) where
       let some : 0 < f * u.base = mul-pos (omega (arith, fair.low, range.0)) fair.base in
       omega (arith, fair)
 
-  pub step-some : 0 < f * u.base
-  step-some = fitting.some
+  pub step_some : 0 < f * u.base
+  step_some = fitting.some
 
   module _ (tol : ℕ) (few : tol ≤ 1_000_000) (a : Bracket) (low : a.low < 65_536) where
-    pub finest-asked : Brackets u.clock (f * u.base) a → Asked u f tol a
-    finest-asked h = record { fair = fair; range = range; few = few; bracket = h; low = low }
+    pub finest_asked : Brackets u.clock (f * u.base) a → Asked u f tol a
+    finest_asked h = record { fair = fair; range = range; few = few; bracket = h; low = low }
 
-    pub undivided-asked : a ≡ undividedOf u.clock (f * u.base) → Asked u f tol a
-    undivided-asked e = finest-asked (rw e (first-brackets u.clock (f * u.base) fitting))
+    pub undivided_asked : a ≡ undivided_of u.clock (f * u.base) → Asked u f tol a
+    undivided_asked e = finest_asked (rw e (first_brackets u.clock (f * u.base) fitting))
 
 -- of the pairs of w counts, the one that is answered has the smallest divider
 module _ (c w : ℕ) (hc : 1 ≤ c) (lc : c ≤ 7) (hw : 1 ≤ w) (lw : w ≤ 65_536) (full : 1 < c → 32_768 ≤ w) where
-  least : (p : ℕ) (Q : Found → Type 0) → ((d x : ℕ) → Least (dividerOf c) w d x → Q (Pair d x p)) → Q (pair_of c w p)
+  least : (p : ℕ) (Q : Found → Type 0) → ((d x : ℕ) → Least (divider_of c) w d x → Q (Pair d x p)) → Q (pair_of c w p)
   least p Q g =
-      by-lt Q 1 c
+      by_lt Q 1 c
       (λ h. by_le Q w 32_768 (λ l. g _ _ (smaller h (omega (arith, full h)))) (λ l. g _ _ (kept (λ h. l))))
       (λ h. g _ _ (kept (λ t. absurd (omega arith))))
     where
-      kept : (1 < c → 32_768 < w) → Least (dividerOf c) w c (w - 1)
+      kept : (1 < c → 32_768 < w) → Least (divider_of c) w c (w - 1)
       kept t =
           let e : w - 1 + 1 ≡ w = omega arith in
-          record { pair = (hc, lc, omega arith); same = ap (λ (z : ℕ). dividerOf c * z) e; full = λ h. omega (arith, t h) }
+          record { pair = (hc, lc, omega arith); same = ap (λ (z : ℕ). divider_of c * z) e; full = λ h. omega (arith, t h) }
 
-      smaller : 1 < c → w ≡ 32_768 → Least (dividerOf c) w (c - 1) (2 * w - 1)
+      smaller : 1 < c → w ≡ 32_768 → Least (divider_of c) w (c - 1) (2 * w - 1)
       smaller h t =
           let e : 2 * w - 1 + 1 ≡ 2 * w = omega arith in
           let s : c - 1 + 1 ≡ c = omega arith in
-          let d : dividerOf c ≡ 2 * dividerOf (c - 1) = sym (ap dividerOf s) ∙ next (c - 1) (omega arith) (omega arith) in
+          let d : divider_of c ≡ 2 * divider_of (c - 1) = sym (ap divider_of s) ∙ next (c - 1) (omega arith) (omega arith) in
           record { pair = omega arith; same = rw (e, d) (omega arith); full = λ l. omega arith }
 
 -- a is the bracket of a request, and v its nearer count
@@ -81,7 +81,7 @@ module _ (u : Rule) (f tol : ℕ) (a : Bracket) (asked : Asked u f tol a) where
   c = a.choice
 
   abbrev N : ℕ
-  N = dividerOf c
+  N = divider_of c
 
   abbrev s : ℕ
   s = f * k * a.divider
@@ -92,7 +92,7 @@ module _ (u : Rule) (f tol : ℕ) (a : Bracket) (asked : Asked u f tol a) where
     full : 1 < c → 32_768 ≤ v.count
     small : s * v.count ≤ C + s
     missed : v.miss ≡ apart C (s * v.count)
-    best : (d x e y : ℕ) → Least N v.count d x → IsPair e y → AsGood C f (k * N * v.count) (dividerOf d) (period u e y) (dividerOf e)
+    best : (d x e y : ℕ) → Least N v.count d x → IsPair e y → AsGood C f (k * N * v.count) (divider_of d) (period u e y) (divider_of e)
 
   pub step_fits : s < 2 ^ 64
   step_fits = omega (arith, h.around.wide)
@@ -100,17 +100,17 @@ module _ (u : Rule) (f tol : ℕ) (a : Bracket) (asked : Asked u f tol a) where
   steps : s ≡ f * (k * N)
   steps = rw h.divides (omega arith)
 
-  nearest : Best (nearerOf C s a.low)
+  nearest : Best (nearer_of C s a.low)
   nearest =
       by_le Best _ _
       (λ g.
       record {
-        some = some-count C s a.low fair.ticks g;
+        some = some_count C s a.low fair.ticks g;
         most = omega (arith, asked.low);
         full = h.full;
         small = omega (arith, h.around.under);
         missed = omega (arith, h.around.under);
-        best = λ d x e y q p. fewer-best C k f fair.base a h fair.ticks d x (rw steps at g) q e y p;
+        best = λ d x e y q p. fewer_best C k f fair.base a h fair.ticks d x (rw steps at g) q e y p;
       })
       (λ g.
       record {
@@ -119,10 +119,10 @@ module _ (u : Rule) (f tol : ℕ) (a : Bracket) (asked : Asked u f tol a) where
         full = λ t. omega (arith, h.full t);
         small = omega (arith, h.around.under);
         missed = omega (arith, h.around.past);
-        best = λ d x e y q p. more-best C k f fair.base a h fair.ticks d x (rw steps at g) q e y p;
+        best = λ d x e y q p. more_best C k f fair.base a h fair.ticks d x (rw steps at g) q e y p;
       })
 
-  module _ (v : Nearest) (is : v ≡ nearerOf C s a.low) where
+  module _ (v : Nearest) (is : v ≡ nearer_of C s a.low) where
     near : Best v
     near = rw is nearest
 
@@ -132,8 +132,8 @@ module _ (u : Rule) (f tol : ℕ) (a : Bracket) (asked : Asked u f tol a) where
     abbrev P : ℕ
     P = k * a.divider * w
 
-    pub count-some : 0 < w
-    count-some = near.some
+    pub count_some : 0 < w
+    count_some = near.some
 
     pub count_most : w ≤ 65_536
     count_most = near.most
@@ -145,14 +145,14 @@ module _ (u : Rule) (f tol : ℕ) (a : Bracket) (asked : Asked u f tol a) where
     periods d x q = let e = ap (λ (z : ℕ). k * z) q.same in omega arith
 
     -- the code's own numbers
-    pub got-fits : s * w < 2 ^ 64
-    got-fits = omega (arith, near.small, h.around)
+    pub got_fits : s * w < 2 ^ 64
+    got_fits = omega (arith, near.small, h.around)
 
-    pub miss-fits : (g : ℕ) → g ≤ 1_000_000 → g * v.miss < 2 ^ 64
-    miss-fits g t = omega (arith, near.missed, near.small, h.around, mul-le-mul_right v.miss t)
+    pub miss_fits : (g : ℕ) → g ≤ 1_000_000 → g * v.miss < 2 ^ 64
+    miss_fits g t = omega (arith, near.missed, near.small, h.around, mul-le-mul_right v.miss t)
 
-    pub allowed-fits : tol * (s * w) < 2 ^ 64
-    allowed-fits = omega (arith, near.small, h.around, mul-le-mul_right (s * w) asked.few)
+    pub allowed_fits : tol * (s * w) < 2 ^ 64
+    allowed_fits = omega (arith, near.small, h.around, mul-le-mul_right (s * w) asked.few)
 
     within : 1_000_000 * v.miss ≤ tol * (s * w) → Within C f tol (k * N * w)
     within g = rw (near.missed, got) at g
@@ -168,63 +168,63 @@ module _ (u : Rule) (f tol : ℕ) (a : Bracket) (asked : Asked u f tol a) where
     paired : 1_000_000 * v.miss ≤ tol * (s * w) → (d x : ℕ) → Least N w d x → Answer u f tol (Pair d x P)
     paired g d x q = rw (h.divides, periods d x q) (pair asked.range asked.few (wins g d x q))
 
-    pub answer-pair : (r : Found) → 1_000_000 * v.miss ≤ tol * (s * w) → r ≡ pair_of c w P → Answer u f tol r
-    answer-pair r g t =
+    pub answer_pair : (r : Found) → 1_000_000 * v.miss ≤ tol * (s * w) → r ≡ pair_of c w P → Answer u f tol r
+    answer_pair r g t =
         rw t (least c w h.some h.most near.some near.most near.full P (Answer u f tol) (paired g))
 
-    pub answer-none : tol * (s * w) < 1_000_000 * v.miss → Answer u f tol (Refused 14)
-    answer-none g = none asked.range asked.few no-pair
+    pub answer_none : tol * (s * w) < 1_000_000 * v.miss → Answer u f tol (Refused 14)
+    answer_none g = none asked.range asked.few no_pair
       where
         too_far : Within C f tol (k * N * w) → ⊥
         too_far t = omega (arith, rw (near.missed, got) at g)
 
-        no-pair : (d y : ℕ) → IsPair d y → Within C f tol (period u d y) → ⊥
-        no-pair d y p t =
+        no_pair : (d y : ℕ) → IsPair d y → Within C f tol (period u d y) → ⊥
+        no_pair d y p t =
             least c w h.some h.most near.some near.most near.full P (λ r. ⊥)
-            (λ b x q. too_far (within-near tol (pair-pos C k f fair.base a h d y p) (near.best b x d y q p) t))
+            (λ b x q. too_far (within_near tol (pair_pos C k f fair.base a h d y p) (near.best b x d y q p) t))
 
 -- the answer: the nearer count of the finest divider's bracket, if that is within the tolerance
 abbrev answer : ℕ → ℕ → ℕ → ℕ → ℕ → Nearest → Found
 answer tol k c d s v = cond (leb (1_000_000 * v.miss) (tol * (s * v.count))) (pair_of c v.count (k * d * v.count)) (Refused 14)
 
-abbrev answerAt : Rule → ℕ → ℕ → Bracket → Found
-answerAt u f tol a =
+abbrev answer_at : Rule → ℕ → ℕ → Bracket → Found
+answer_at u f tol a =
     let s = f * u.base * a.divider in
-    answer tol u.base a.choice a.divider s (nearerOf u.clock s a.low)
+    answer tol u.base a.choice a.divider s (nearer_of u.clock s a.low)
 
 abbrev pub found : Rule → ℕ → ℕ → Found
 found u f tol =
     cond (ltb f u.low) (Refused 12)
     (cond (ltb u.high f) (Refused 12)
     (cond (ltb 1_000_000 tol) (Refused 13)
-    (answerAt u f tol (shortened 6 (undividedOf u.clock (f * u.base))))))
+    (answer_at u f tol (shortened 6 (undivided_of u.clock (f * u.base))))))
 
 module _ (u : Rule) (fair : Fair u) (f tol : ℕ) where
-  answered : (a : Bracket) → Asked u f tol a → Answer u f tol (answerAt u f tol a)
+  answered : (a : Bracket) → Asked u f tol a → Answer u f tol (answer_at u f tol a)
   answered a h =
       by_le (Answer u f tol) _ _
-      (λ g. answer-pair u f tol a h _ refl _ g refl)
-      (λ g. answer-none u f tol a h _ refl g)
+      (λ g. answer_pair u f tol a h _ refl _ g refl)
+      (λ g. answer_none u f tol a h _ refl g)
 
   -- there is an answer
   pub found_right : Answer u f tol (found u f tol)
   found_right =
-      by-lt (Answer u f tol) f u.low
+      by_lt (Answer u f tol) f u.low
       (λ below. outside (λ h. omega arith))
       (λ low.
-      by-lt (Answer u f tol) u.high f
+      by_lt (Answer u f tol) u.high f
       (λ above. outside (λ h. omega arith))
       (λ high.
-      by-lt (Answer u f tol) 1_000_000 tol
+      by_lt (Answer u f tol) 1_000_000 tol
       (λ many. loose (low, high) (omega arith))
       (λ few.
       let fit = fitting u fair f (low, high) in
-      let a = undividedOf u.clock (f * u.base) in
-      let g = shortened-brackets u.clock (f * u.base) fit 6 a (first-brackets u.clock (f * u.base) fit) refl in
+      let a = undivided_of u.clock (f * u.base) in
+      let g = shortened_brackets u.clock (f * u.base) fit 6 a (first_brackets u.clock (f * u.base) fit) refl in
       answered (shortened 6 a) (record { fair = fair; range = (low, high); few = few; bracket = g.0; low = g.1 }))))
 
-  one-pair : (c x d y : ℕ) → Wins u f tol c x → Wins u f tol d y → (c ≡ d) × (x ≡ y)
-  one-pair c x d y h l = (same-c, same-x)
+  one_pair : (c x d y : ℕ) → Wins u f tol c x → Wins u f tol d y → (c ≡ d) × (x ≡ y)
+  one_pair c x d y h l = (same_c, same_x)
     where
       P : ℕ
       P = period u c x
@@ -232,29 +232,29 @@ module _ (u : Rule) (fair : Fair u) (f tol : ℕ) where
       Q : ℕ
       Q = period u d y
 
-      there : AsGood u.clock f P (dividerOf c) Q (dividerOf d)
+      there : AsGood u.clock f P (divider_of c) Q (divider_of d)
       there = h.best d y l.pair
 
-      back : AsGood u.clock f Q (dividerOf d) P (dividerOf c)
+      back : AsGood u.clock f Q (divider_of d) P (divider_of c)
       back = l.best c x h.pair
 
       tie : apart u.clock (f * P) * Q ≡ apart u.clock (f * Q) * P
       tie = le_antisymm there.near back.near
 
-      same-p : P ≡ Q
-      same-p = le_antisymm (there.small tie) (back.small (sym tie))
+      same_p : P ≡ Q
+      same_p = le_antisymm (there.small tie) (back.small (sym tie))
 
-      same-c : c ≡ d
-      same-c =
+      same_c : c ≡ d
+      same_c =
           one c d h.pair.0 h.pair.1 l.pair.0 l.pair.1
-          (le_antisymm (there.fine tie same-p) (back.fine (sym tie) (sym same-p)))
+          (le_antisymm (there.fine tie same_p) (back.fine (sym tie) (sym same_p)))
 
-      same-x : x ≡ y
-      same-x =
+      same_x : x ≡ y
+      same_x =
           omega (
             arith,
-            eq_of_mul-eq-mul_left (u.base * dividerOf c) (mul-pos fair.base (some c h.pair.0 h.pair.1)) (x + 1) (y + 1)
-                (same-p ∙ ap (λ (e : ℕ). u.base * dividerOf e * (y + 1)) (sym same-c)),
+            eq_of_mul-eq-mul_left (u.base * divider_of c) (mul-pos fair.base (some c h.pair.0 h.pair.1)) (x + 1) (y + 1)
+                (same_p ∙ ap (λ (e : ℕ). u.base * divider_of e * (y + 1)) (sym same_c)),
           )
 
   pub same_numbers : {v w : ℕ × ℕ × ℕ × ℕ} → Outcome u f tol v → Outcome u f tol w → v ≡ w
@@ -273,19 +273,19 @@ module _ (u : Rule) (fair : Fair u) (f tol : ℕ) where
   same_numbers (pair a s w) (outside b) = absurd (b a)
   same_numbers (pair a s w) (loose b t) = absurd (omega arith)
   same_numbers (pair a s w) (none b t e) = absurd (e _ _ w.pair w.within)
-  same_numbers (pair a s w) (pair b t v) = let e = one-pair _ _ _ _ w v in rw (e.0, e.1)
+  same_numbers (pair a s w) (pair b t v) = let e = one_pair _ _ _ _ w v in rw (e.0, e.1)
 
 pub settled : (u : Rule) → Fair u → Settled u
-settled u fair f tol = (foundNumbers (found u f tol), found_right u fair f tol, λ w h. same_numbers u fair f tol h (found_right u fair f tol))
+settled u fair f tol = (found_numbers (found u f tol), found_right u fair f tol, λ w h. same_numbers u fair f tol h (found_right u fair f tol))
 
-pub fair-pwm : Fair (pwm 1_000)
-fair-pwm = omega arith
+pub fair_pwm : Fair (pwm 1_000)
+fair_pwm = omega arith
 
-pub fair-spi : Fair (spi 1_000)
-fair-spi = omega arith
+pub fair_spi : Fair (spi 1_000)
+fair_spi = omega arith
 
-pub fair-hertz-pwm : Fair (pwm 1)
-fair-hertz-pwm = omega arith
+pub fair_hertz_pwm : Fair (pwm 1)
+fair_hertz_pwm = omega arith
 
-pub fair-hertz-spi : Fair (spi 1)
-fair-hertz-spi = omega arith
+pub fair_hertz_spi : Fair (spi 1)
+fair_hertz_spi = omega arith

@@ -14,13 +14,13 @@ module _ (a b c p q r : ℕ) (hq : 0 < q) (h : a * q ≤ b * p) (l : b * r ≤ c
   cross : a * r ≤ c * p
   cross = le_of_mul-le-mul_right {k = q} (omega (arith, mul-le-mul_right r h, mul-le-mul_right p l)) hq
 
-  cross-left : 0 < r → a * r ≡ c * p → a * q ≡ b * p
-  cross-left hr e =
+  cross_left : 0 < r → a * r ≡ c * p → a * q ≡ b * p
+  cross_left hr e =
       eq_of_mul-eq-mul_right r hr (a * q) (b * p)
       (omega (arith, mul-le-mul_right r h, mul-le-mul_right p l, ap (λ (z : ℕ). z * q) e))
 
-  cross-right : 0 < p → a * r ≡ c * p → b * r ≡ c * q
-  cross-right hp e =
+  cross_right : 0 < p → a * r ≡ c * p → b * r ≡ c * q
+  cross_right hp e =
       eq_of_mul-eq-mul_right p hp (b * r) (c * q)
       (omega (arith, mul-le-mul_right r h, mul-le-mul_right p l, ap (λ (z : ℕ). z * q) e))
 
@@ -42,10 +42,10 @@ trans {C} {f} {P} {N} {Q} {M} {R} {L} hP hQ hR h l =
     c = off C f R
 
     left : a * R ≡ c * P → a * Q ≡ b * P
-    left e = cross-left a b c P Q R hQ h.near l.near hR e
+    left e = cross_left a b c P Q R hQ h.near l.near hR e
 
     right : a * R ≡ c * P → b * R ≡ c * Q
-    right e = cross-right a b c P Q R hQ h.near l.near hP e
+    right e = cross_right a b c P Q R hQ h.near l.near hP e
 
     between : a * R ≡ c * P → P ≡ R → (P ≡ Q) × (Q ≡ R)
     between e s = omega (arith, h.small (left e), l.small (right e))
@@ -87,5 +87,5 @@ shorter {C} {f} {P} {Q} {N} {M} s h g =
 tolerated : (a b f tol p q : ℕ) → 0 < q → a * q ≤ b * p → 1_000_000 * b ≤ tol * (f * q) → 1_000_000 * a ≤ tol * (f * p)
 tolerated a b f tol p q hq h l = le_of_mul-le-mul_right {k = q} (omega (arith, mul-le-mul_right p l)) hq
 
-pub within-near : {C f P N Q M : ℕ} (tol : ℕ) → 0 < Q → AsGood C f P N Q M → Within C f tol Q → Within C f tol P
-within-near {C} {f} {P} {N} {Q} {M} tol hQ h l = tolerated (off C f P) (off C f Q) f tol P Q hQ h.near l
+pub within_near : {C f P N Q M : ℕ} (tol : ℕ) → 0 < Q → AsGood C f P N Q M → Within C f tol Q → Within C f tol P
+within_near {C} {f} {P} {N} {Q} {M} tol hQ h l = tolerated (off C f P) (off C f Q) f tol P Q hQ h.near l

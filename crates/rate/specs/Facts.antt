@@ -1,6 +1,6 @@
 -- What is shown of the rates, with sums beside those that paper 01 marks, which stand together in the crate `sums`. Assumes nothing.
 use Rattle.std.specs.Prelude.{◌≡◌, ◌↔◌, ℕ, ◌*◌}
-use Rattle.divider.specs.Divider.{dividerOf}
+use Rattle.divider.specs.Divider.{divider_of}
 use Rattle.rate.specs.declared.Rule.{Rule}
 use Rattle.rate.specs.Rate.{period, Outcome}
 
@@ -18,7 +18,7 @@ Thousandfold u = (f tol : ℕ) (v : ℕ × ℕ × ℕ × ℕ) → Outcome (u 1) 
 -- "the sums below name N": the pair answered has the divider N
 pub record Gives (u : Rule) (f tol N X : ℕ) : Type 0 where
   pub choice : ℕ
-  pub divides : dividerOf choice ≡ N
+  pub divides : divider_of choice ≡ N
   pub answered : Outcome u f tol (0, choice, X, period u choice X)
 
 -- Of our own: "then smaller P", and the last divider. In range no rate in millihertz has two nearest periods or wants a divider above 16, so

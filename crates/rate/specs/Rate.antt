@@ -2,7 +2,7 @@
 -- its answer gives the period too. "PWM and SPI are asked by separate calls": a rule u has the numbers of one of them. A pair is a divider
 -- choice c and X. Assumes nothing.
 use Rattle.std.specs.Prelude.{◌≡◌, cond, ◌||◌, ℕ, ◌+◌, ◌-◌, ◌*◌, ◌≤◌, ◌<◌, ltb}
-use Rattle.divider.specs.Divider.{dividerOf}
+use Rattle.divider.specs.Divider.{divider_of}
 use Rattle.rate.specs.declared.Rule.{Rule}
 use Rattle.rate.specs.declared.Rated.{Rated}
 use Rattle.rate.specs.declared.Rated.TheVariants.{Ratio, Unset}
@@ -23,7 +23,7 @@ InRange u f = (u.low ≤ f) × (f ≤ u.high)
 
 -- P, with "N as above": the divider of the choice, which is one rule for PWM and SPI
 abbrev pub period : Rule → ℕ → ℕ → ℕ
-period u c x = u.base * dividerOf c * (x + 1)
+period u c x = u.base * divider_of c * (x + 1)
 
 -- "X is 0 to 65,535", "Divider choices 1 to 7 mean N = 1 to 64 as for CS, for SPI too"
 abbrev pub IsPair : ℕ → ℕ → Type 0
@@ -31,13 +31,13 @@ IsPair c x = (1 ≤ c) × (c ≤ 7) × (x ≤ 65_535)
 
 -- "From registers the rate is the fraction 40,000,000/P, returned as the numbers 40,000,000 and P, with no range check but 15": a "divider choice 0 or
 -- above 7, or X above 65,535". The refusal, 0 for none, and the fraction's two numbers, 0 beside a refusal
-abbrev pub rateOf : Rule → ℕ → ℕ → ℕ × ℕ × ℕ
-rateOf u c x = cond (ltb c 1 || (ltb 7 c || ltb 65_535 x)) (15, 0, 0) (0, u.hertz, period u c x)
+abbrev pub rate_of : Rule → ℕ → ℕ → ℕ × ℕ × ℕ
+rate_of u c x = cond (ltb c 1 || (ltb 7 c || ltb 65_535 x)) (15, 0, 0) (0, u.hertz, period u c x)
 
 -- the numbers of such an answer
-abbrev pub ratedNumbers : Rated → ℕ × ℕ × ℕ
-ratedNumbers (Ratio k p) = (0, k, p)
-ratedNumbers (Unset n) = (n, 0, 0)
+abbrev pub rated_numbers : Rated → ℕ × ℕ × ℕ
+rated_numbers (Ratio k p) = (0, k, p)
+rated_numbers (Unset n) = (n, 0, 0)
 
 -- |a - b|
 abbrev pub apart : ℕ → ℕ → ℕ
@@ -62,7 +62,7 @@ pub record AsGood (C f P N Q M : ℕ) : Type 0 where
 pub record Wins (u : Rule) (f tol c x : ℕ) : Type 0 where
   pub pair : IsPair c x
   pub within : Within u.clock f tol (period u c x)
-  pub best : (d y : ℕ) → IsPair d y → AsGood u.clock f (period u c x) (dividerOf c) (period u d y) (dividerOf d)
+  pub best : (d y : ℕ) → IsPair d y → AsGood u.clock f (period u c x) (divider_of c) (period u d y) (divider_of d)
 
 -- What may be answered to a request, in numbers: the refusal, 0 for none, the divider choice, X and the period. "Checks go in this order; ..
 -- for a rate 12, 13, 14", "Rate refusals return the number alone".
@@ -77,9 +77,9 @@ pub data Outcome (u : Rule) (f tol : ℕ) : ℕ × ℕ × ℕ × ℕ → Type 0 
   pair : {c x : ℕ} → InRange u f → tol ≤ 1_000_000 → Wins u f tol c x → Outcome u f tol (0, c, x, period u c x)
 
 -- the numbers of an answer
-abbrev pub foundNumbers : Found → ℕ × ℕ × ℕ × ℕ
-foundNumbers (Pair c x p) = (0, c, x, p)
-foundNumbers (Refused n) = (n, 0, 0, 0)
+abbrev pub found_numbers : Found → ℕ × ℕ × ℕ × ℕ
+found_numbers (Pair c x p) = (0, c, x, p)
+found_numbers (Refused n) = (n, 0, 0, 0)
 
 abbrev pub Answer : Rule → ℕ → ℕ → Found → Type 0
-Answer u f tol r = Outcome u f tol (foundNumbers r)
+Answer u f tol r = Outcome u f tol (found_numbers r)

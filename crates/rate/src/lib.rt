@@ -1,6 +1,6 @@
 // The rate finder: the divider choice and X whose rate is nearest to a wanted one, and the rate that a choice and X give.
 ghost use Rattle.std.specs.Prelude.{◌≡◌, ◌≤◌, ◌<◌};
-ghost use Rattle.rate.specs.Rate.{pwm, spi, rateOf, ratedNumbers, Answer};
+ghost use Rattle.rate.specs.Rate.{pwm, spi, rate_of, rated_numbers, Answer};
 ghost use Rattle.rate.specs.How.{Fair, Asked, pair_of};
 
 use divider::divider;
@@ -122,7 +122,7 @@ pub fn find_spi(f: u64, tol: u64) -> Found
 // The rate of a divider choice and X.
 fn rate_of(rule: Rule, choice: u64, x: u64) -> Rated
     requires { Fair rule }
-    ensures { ratedNumbers result ≡ rateOf rule choice x }
+    ensures { rated_numbers result ≡ rate_of rule choice x }
 {
     if choice < 1 {
         return Rated::Unset(15);
@@ -141,14 +141,14 @@ fn rate_of(rule: Rule, choice: u64, x: u64) -> Rated
 
 // The rate that PWM registers give.
 pub fn pwm_rate(choice: u64, x: u64) -> Rated
-    ensures { ratedNumbers result ≡ rateOf (pwm 1_000) choice x }
+    ensures { rated_numbers result ≡ rate_of (pwm 1_000) choice x }
 {
     rate_of(PWM, choice, x)
 }
 
 // The rate that SPI registers give.
 pub fn spi_rate(choice: u64, x: u64) -> Rated
-    ensures { ratedNumbers result ≡ rateOf (spi 1_000) choice x }
+    ensures { rated_numbers result ≡ rate_of (spi 1_000) choice x }
 {
     rate_of(SPI, choice, x)
 }

@@ -4,17 +4,17 @@ use Prim.Native.Nat.{ℕ, ◌+◌, ◌*◌, ◌/◌, ◌≤◌, ◌<◌}
 use native.Mathlib.Nat.{le_refl, mul-le-mul_left, le-div_iff_mul-le, div-lt_iff_lt-mul}
 use native.Mathlib.Omega.{arith}
 use native.Mathlib.Decide.{dec_le}
-use Rattle.divider.specs.Divider.{dividerOf}
+use Rattle.divider.specs.Divider.{divider_of}
 use Rattle.rate_counts.specs.declared.Bracket.{Bracket}
-use Rattle.rate_counts.specs.How.{Fit, Brackets, undividedOf, coarserOf}
+use Rattle.rate_counts.specs.How.{Fit, Brackets, undivided_of, coarser_of}
 use Rattle.rate_counts.proofs.Dividers.{most, next}
 
 module _ (C s : ℕ) (fit : Fit C s) where
   pub first_some : 0 < s
   first_some = fit.some
 
-  pub first-brackets : Brackets C s (undividedOf C s)
-  first-brackets =
+  pub first_brackets : Brackets C s (undivided_of C s)
+  first_brackets =
       record {
         some = omega arith;
         most = omega arith;
@@ -38,12 +38,12 @@ module _ (C s : ℕ) (fit : Fit C s) where
       by (yes t) = omega arith
       by (no t) =
           let e : a.choice ≡ 7 = omega (arith, h.most) in
-          let g : a.divider ≡ 64 = h.divides ∙ ap dividerOf e in
+          let g : a.divider ≡ 64 = h.divides ∙ ap divider_of e in
           let j : s * a.divider ≡ s * 64 = ap (λ (d : ℕ). s * d) g in
           omega (arith, h.around.under, mul-le-mul_left (s * a.divider) l, fit.reach)
 
-  pub coarser-brackets : (a : Bracket) → Brackets C s a → 65_536 ≤ a.low → Brackets C s (coarserOf a)
-  coarser-brackets a h l =
+  pub coarser_brackets : (a : Bracket) → Brackets C s a → 65_536 ≤ a.low → Brackets C s (coarser_of a)
+  coarser_brackets a h l =
       record {
         some = omega arith;
         most = omega (arith, more a h l);
@@ -65,6 +65,6 @@ module _ (C s : ℕ) (fit : Fit C s) where
       whole : a.low + 1 ≤ 2 * (a.low / 2 + 1)
       whole = omega arith
 
-      divides : 2 * a.divider ≡ dividerOf (a.choice + 1)
+      divides : 2 * a.divider ≡ divider_of (a.choice + 1)
       divides = rw (next a.choice h.some (more a h l), h.divides)
       -- a count that is short enough is reached in six turns

@@ -6,17 +6,17 @@ use Rattle.rate_counts.specs.How.{Around}
 
 -- the products that are compared: of a distance, which is at most a step, and one of the two counts
 module _ (C s m : ℕ) (h : Around C s m) where
-  pub under-fits : s * m < 2 ^ 64
-  under-fits = omega (arith, h)
+  pub under_fits : s * m < 2 ^ 64
+  under_fits = omega (arith, h)
 
   pub high_fits : m + 1 < 2 ^ 64
   high_fits = omega (arith, h, mul-le-mul_right {m = 1} {n = s} m (omega (arith, h)))
 
-  pub short-near : C - s * m ≤ s
-  short-near = omega (arith, h)
+  pub short_near : C - s * m ≤ s
+  short_near = omega (arith, h)
 
-  pub over-near : s - (C - s * m) ≤ s
-  over-near = omega (arith, h)
+  pub over_near : s - (C - s * m) ≤ s
+  over_near = omega (arith, h)
 
-  pub product-fits : (v z : ℕ) → v ≤ s → z ≤ m + 1 → v * z < 2 ^ 64
-  product-fits v z l t = omega (arith, h, mul-le-mul l t)
+  pub product_fits : (v z : ℕ) → v ≤ s → z ≤ m + 1 → v * z < 2 ^ 64
+  product_fits v z l t = omega (arith, h, mul-le-mul l t)

@@ -1,7 +1,7 @@
 -- How the finder counts, as functions that compute: the finest divider whose counts go past the wanted rate, and of its two counts next to
 -- that rate the nearer. No promise of the finder names them. Assumes nothing.
 use Rattle.std.specs.Prelude.{◌≡◌, cond, ℕ, ◌+◌, ◌-◌, ◌*◌, ◌/◌, ◌≤◌, ◌<◌, leb}
-use Rattle.divider.specs.Divider.{dividerOf}
+use Rattle.divider.specs.Divider.{divider_of}
 use Rattle.rate_counts.specs.declared.Bracket.{Bracket}
 use Rattle.rate_counts.specs.declared.Nearest.{Nearest}
 
@@ -24,16 +24,16 @@ pub record Around (C s m : ℕ) : Type 0 where
 pub record Brackets (C s : ℕ) (a : Bracket) : Type 0 where
   pub some : 1 ≤ a.choice
   pub most : a.choice ≤ 7
-  pub divides : a.divider ≡ dividerOf a.choice
+  pub divides : a.divider ≡ divider_of a.choice
   pub small : a.divider ≤ 64
   pub around : Around C (s * a.divider) a.low
   pub full : 1 < a.choice → 32_768 ≤ a.low
 
-abbrev pub undividedOf : ℕ → ℕ → Bracket
-undividedOf C s = record { choice = 1; divider = 1; low = C / s }
+abbrev pub undivided_of : ℕ → ℕ → Bracket
+undivided_of C s = record { choice = 1; divider = 1; low = C / s }
 
-abbrev pub coarserOf : Bracket → Bracket
-coarserOf a = record { choice = a.choice + 1; divider = 2 * a.divider; low = a.low / 2 }
+abbrev pub coarser_of : Bracket → Bracket
+coarser_of a = record { choice = a.choice + 1; divider = 2 * a.divider; low = a.low / 2 }
 
 -- how far m steps of s fall short of the clock's rate, and one more goes over it
 abbrev pub short : ℕ → ℕ → ℕ → ℕ
@@ -42,8 +42,8 @@ short C s m = C - s * m
 abbrev pub over : ℕ → ℕ → ℕ → ℕ
 over C s m = s - short C s m
 
-abbrev pub nearerOf : ℕ → ℕ → ℕ → Nearest
-nearerOf C s m =
+abbrev pub nearer_of : ℕ → ℕ → ℕ → Nearest
+nearer_of C s m =
     cond (leb (short C s m * (m + 1)) (over C s m * m))
     (record { count = m; miss = short C s m })
     (record { count = m + 1; miss = over C s m })

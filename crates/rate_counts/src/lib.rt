@@ -1,6 +1,6 @@
 // The counts next to a wanted rate: of the finest divider whose counts go past it, and the nearer of the two.
 ghost use Rattle.std.specs.Prelude.{◌≡◌, ◌<◌, ◌^◌};
-ghost use Rattle.rate_counts.specs.How.{Fit, Brackets, Around, undividedOf, coarserOf, nearerOf};
+ghost use Rattle.rate_counts.specs.How.{Fit, Brackets, Around, undivided_of, coarser_of, nearer_of};
 
 // A divider choice, what it divides by, and its counts next to the wanted rate: `low` counts are at or under the clock's rate, one more is
 // past it.
@@ -21,7 +21,7 @@ pub struct Nearest {
 // The bracket of the clock undivided. A step is the wanted rate times the ticks of a count.
 pub fn undivided(clock: u64, step: u64) -> Bracket
     requires { 0 < step }
-    ensures { result ≡ undividedOf clock step }
+    ensures { result ≡ undivided_of clock step }
 {
     Bracket {
         choice: 1,
@@ -33,7 +33,7 @@ pub fn undivided(clock: u64, step: u64) -> Bracket
 // The bracket of the next coarser divider.
 fn coarser(a: Bracket) -> Bracket
     requires { (a.choice < 8) × (a.divider < 2 ^ 63) }
-    ensures { result ≡ coarserOf a }
+    ensures { result ≡ coarser_of a }
 {
     Bracket {
         choice: a.choice + 1,
@@ -58,7 +58,7 @@ pub fn finest(clock: u64, step: u64) -> Bracket
 // Crossed with the other's steps, which comes to the same, the products outgrow 64 bits.
 pub fn nearer(clock: u64, step: u64, low: u64) -> Nearest
     requires { Around clock step low }
-    ensures { result ≡ nearerOf clock step low }
+    ensures { result ≡ nearer_of clock step low }
 {
     let under = step * low;
     let short = clock - under;

@@ -2,7 +2,7 @@
 ghost use Rattle.std.specs.Prelude.{◌≡◌};
 ghost use Rattle.io.specs.Counts.{IsPrefixLen};
 ghost use Rattle.decimal.specs.Put.{Put};
-ghost use Rattle.rate_print.specs.Said.{questionOf, ruleOf, foundText, ratedText, PairSaid, RateSaid, AnswerSaid};
+ghost use Rattle.rate_print.specs.Said.{question_of, rule_of, found_text, rated_text, PairSaid, RateSaid, AnswerSaid};
 
 use decimal::Decimal;
 use rate::{Found, Rated};
@@ -16,7 +16,7 @@ pub enum Question {
 }
 
 pub fn asked(word: &[u8]) -> Question
-    ensures { result ≡ questionOf word.now }
+    ensures { result ≡ question_of word.now }
 {
     if check::same(word, b"pwm") {
         return Question::Pair(false);
@@ -34,7 +34,7 @@ pub fn asked(word: &[u8]) -> Question
 }
 
 fn say_found(text: &mut [u8], found: Found) -> usize
-    ensures { Put text.old 0 (foundText found) text.new result }
+    ensures { Put text.old 0 (found_text found) text.new result }
 {
     match found {
         Found::Pair { choice, x, period } => text_answers::pair_text(text, choice, x, period),
@@ -43,7 +43,7 @@ fn say_found(text: &mut [u8], found: Found) -> usize
 }
 
 fn say_rated(text: &mut [u8], rated: Rated) -> usize
-    ensures { Put text.old 0 (ratedText rated) text.new result }
+    ensures { Put text.old 0 (rated_text rated) text.new result }
 {
     match rated {
         Rated::Ratio { clock, period } => text_answers::rate_text(text, clock, period),
@@ -52,7 +52,7 @@ fn say_rated(text: &mut [u8], rated: Rated) -> usize
 }
 
 fn say_pair(text: &mut [u8], spi: bool, a: Decimal, b: Decimal) -> usize
-    ensures { PairSaid (ruleOf spi) a b text.old text.new result }
+    ensures { PairSaid (rule_of spi) a b text.old text.new result }
 {
     let Decimal::Number(rate) = a else {
         return text_answers::no_number_text(text, b"RATE");
@@ -67,7 +67,7 @@ fn say_pair(text: &mut [u8], spi: bool, a: Decimal, b: Decimal) -> usize
 }
 
 fn say_rate(text: &mut [u8], spi: bool, a: Decimal, b: Decimal) -> usize
-    ensures { RateSaid (ruleOf spi) a b text.old text.new result }
+    ensures { RateSaid (rule_of spi) a b text.old text.new result }
 {
     let Decimal::Number(choice) = a else {
         return text_answers::no_number_text(text, b"CHOICE");

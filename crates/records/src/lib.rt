@@ -1,6 +1,6 @@
 // What a record's fields name, by the table of kinds, blocks, channels and registers; or its refusal.
 ghost use Rattle.std.specs.Prelude.{◌≡◌, cond};
-ghost use Rattle.records.specs.Record.{fitting, selectRange, pwmCnfg, pwmRange, i2cRange, writeOf, read_of, pinsOf, ticksOf, answer_of, named_of, refusalOf};
+ghost use Rattle.records.specs.Record.{fitting, select_range, pwm_cnfg, pwm_range, i2c_range, write_of, read_of, pins_of, ticks_of, answer_of, named_of, refusal_of};
 
 // What a record names: its access with its channel, its register and its value, in this order, where it has them. Registers have the
 // paper's numbers. Each number is 64 bits wide, so that the variants lie alike and none has to be kept in memory.
@@ -29,13 +29,13 @@ pub enum Decoded {
 // ---- the values that a register takes
 
 fn pwm_cnfg(v: u64) -> bool
-    ensures { result ≡ pwmCnfg v }
+    ensures { result ≡ pwm_cnfg v }
 {
     (v == 0) | ((v == 1) | ((v == 4) | (v == 5)))
 }
 
 pub fn pwm_range(register: u8, v: u64) -> bool
-    ensures { result ≡ pwmRange register v }
+    ensures { result ≡ pwm_range register v }
 {
     if register == 0 {
         return pwm_cnfg(v);
@@ -47,7 +47,7 @@ pub fn pwm_range(register: u8, v: u64) -> bool
 }
 
 pub fn i2c_range(register: u8, v: u64) -> bool
-    ensures { result ≡ i2cRange register v }
+    ensures { result ≡ i2c_range register v }
 {
     if register == 0 {
         return v < 256;
@@ -59,7 +59,7 @@ pub fn i2c_range(register: u8, v: u64) -> bool
 }
 
 pub fn select_range(port: bool, v: u64) -> bool
-    ensures { result ≡ selectRange port v }
+    ensures { result ≡ select_range port v }
 {
     if port {
         return (v < 256) & !((v >> 6) % 2 == 1);
@@ -79,7 +79,7 @@ fn fitting(fits: bool, r: Record) -> Decoded
 }
 
 fn select_write(port: bool, channel: u8, register: u8, v: u64) -> Decoded
-    ensures { result ≡ writeOf port 0 channel register v }
+    ensures { result ≡ write_of port 0 channel register v }
 {
     if channel != 0 {
         return Decoded::Refused(7);
@@ -91,7 +91,7 @@ fn select_write(port: bool, channel: u8, register: u8, v: u64) -> Decoded
 }
 
 fn encoder_write(port: bool, channel: u8, register: u8, v: u64) -> Decoded
-    ensures { result ≡ writeOf port 1 channel register v }
+    ensures { result ≡ write_of port 1 channel register v }
 {
     if channel >= 10 {
         return Decoded::Refused(7);
@@ -106,7 +106,7 @@ fn encoder_write(port: bool, channel: u8, register: u8, v: u64) -> Decoded
 }
 
 fn pwm_write(port: bool, channel: u8, register: u8, v: u64) -> Decoded
-    ensures { result ≡ writeOf port 2 channel register v }
+    ensures { result ≡ write_of port 2 channel register v }
 {
     if channel >= 20 {
         return Decoded::Refused(7);
@@ -121,7 +121,7 @@ fn pwm_write(port: bool, channel: u8, register: u8, v: u64) -> Decoded
 }
 
 fn i2c_write(port: bool, channel: u8, register: u8, v: u64) -> Decoded
-    ensures { result ≡ writeOf port 3 channel register v }
+    ensures { result ≡ write_of port 3 channel register v }
 {
     if channel != 0 {
         return Decoded::Refused(7);
@@ -133,7 +133,7 @@ fn i2c_write(port: bool, channel: u8, register: u8, v: u64) -> Decoded
 }
 
 fn write(port: bool, block: u8, channel: u8, register: u8, v: u64) -> Decoded
-    ensures { result ≡ writeOf port block channel register v }
+    ensures { result ≡ write_of port block channel register v }
 {
     if block == 0 {
         return select_write(port, channel, register, v);
@@ -226,7 +226,7 @@ fn read(answers: bool, block: u8, channel: u8, register: u8) -> Decoded
 }
 
 fn pins(block: u8, channel: u8, register: u8, v: u64) -> Decoded
-    ensures { result ≡ pinsOf block channel register v }
+    ensures { result ≡ pins_of block channel register v }
 {
     if block != 1 {
         return Decoded::Refused(7);
@@ -244,7 +244,7 @@ fn pins(block: u8, channel: u8, register: u8, v: u64) -> Decoded
 }
 
 fn ticks(block: u8, channel: u8, register: u8, bank: u64, v: u64) -> Decoded
-    ensures { result ≡ ticksOf block channel register bank v }
+    ensures { result ≡ ticks_of block channel register bank v }
 {
     if bank != 0 {
         return Decoded::Refused(7);
@@ -320,7 +320,7 @@ pub fn named(
 
 // The number of a refused record; 0 of one that is named.
 pub fn refusal(d: Decoded) -> u8
-    ensures { result ≡ refusalOf d }
+    ensures { result ≡ refusal_of d }
 {
     match d {
         Decoded::Names(_) => 0,

@@ -1,6 +1,6 @@
 // What refuses a record that is decoded, by its edition and the SELECT and the I2C of its bank: 9, 10, 11, 16 or 18, or 0.
 ghost use Rattle.std.specs.Prelude.{◌≡◌};
-ghost use Rattle.refusals.specs.How.{unrouted, cnfgRefusal, selectRefusal, goRefusal, i2cRefusal, refusalOf};
+ghost use Rattle.refusals.specs.How.{unrouted, cnfg_refusal, select_refusal, go_refusal, i2c_refusal, refusal_of};
 
 use edition::Edition;
 use i2c::I2c;
@@ -13,7 +13,7 @@ fn unrouted(routed: bool) -> u8
 }
 
 fn cnfg_refusal(quadrature: bool, routed: bool, v: u64) -> u8
-    ensures { result ≡ cnfgRefusal quadrature routed v }
+    ensures { result ≡ cnfg_refusal quadrature routed v }
 {
     if quadrature & ((v >> 2) % 2 == 1) {
         if routed {
@@ -25,7 +25,7 @@ fn cnfg_refusal(quadrature: bool, routed: bool, v: u64) -> u8
 }
 
 fn select_refusal(port: bool, v: u64) -> u8
-    ensures { result ≡ selectRefusal port v }
+    ensures { result ≡ select_refusal port v }
 {
     if select_allowed::allowed(port, v) {
         0
@@ -35,7 +35,7 @@ fn select_refusal(port: bool, v: u64) -> u8
 }
 
 fn go_refusal(c: I2c) -> u8
-    ensures { result ≡ goRefusal c }
+    ensures { result ≡ go_refusal c }
 {
     if c.permits() {
         if c.forbids() {
@@ -47,7 +47,7 @@ fn go_refusal(c: I2c) -> u8
 }
 
 fn i2c_refusal(routed: bool, register: u64, c: I2c) -> u8
-    ensures { result ≡ i2cRefusal routed register c }
+    ensures { result ≡ i2c_refusal routed register c }
 {
     if routed {
         if register == 0 {
@@ -62,7 +62,7 @@ fn i2c_refusal(routed: bool, register: u64, c: I2c) -> u8
 }
 
 pub fn refusal(edition: Edition, select: u64, c: I2c, r: Record) -> u8
-    ensures { result ≡ refusalOf edition select c r }
+    ensures { result ≡ refusal_of edition select c r }
 {
     match r {
         Record::WriteSelect(v) => select_refusal(edition.port, v),

@@ -4,16 +4,16 @@ ghost use Rattle.std.specs.Prelude.{◌/◌, ◌%◌, ◌^◌, ◌≡◌, length
 ghost use Rattle.fold.specs.Output.{number_of, bytes_of, over};
 ghost use Rattle.numbers.specs.Bytes.{le_bytes};
 ghost use Rattle.walk.specs.Turn.{written};
-ghost use Rattle.replay.specs.Replay.{replayOf};
-ghost use Rattle.made.specs.Made.{made_of, outputOf as made-output};
-ghost use Rattle.dump.specs.Dump.{dumpText};
+ghost use Rattle.replay.specs.Replay.{replay_of};
+ghost use Rattle.made.specs.Made.{made_of, output_of as made_output};
+ghost use Rattle.dump.specs.Dump.{dump_text};
 ghost use Rattle.dump_read.specs.Reading.{Answer};
-ghost use Rattle.shrink.specs.Shrink.{smallerOf};
-ghost use Rattle.sign.specs.Sign.{sign_of, signOutput};
-ghost use Rattle.writer.specs.Writer.{written_of, outputOf as write-output};
+ghost use Rattle.shrink.specs.Shrink.{smaller_of};
+ghost use Rattle.sign.specs.Sign.{sign_of, sign_output};
+ghost use Rattle.writer.specs.Writer.{written_of, output_of as write-output};
 ghost use Rattle.live_state.specs.Live.{chunk_of, end_of};
 ghost use Rattle.image_state.specs.Image.{image_of};
-ghost use Rattle.stream.specs.Stream.{start_of, startedIn, On};
+ghost use Rattle.stream.specs.Stream.{start_of, started_in, On};
 ghost use Rattle.words.specs.Word.{Word};
 
 use words::word;
@@ -21,8 +21,8 @@ use words::word;
 // Bits 8 up: how many records were applied, also when one was refused.
 #[unsafe(no_mangle)]
 pub extern "C" fn rvz_replay(log: &[u8], out: &mut [u8]) -> u64
-    ensures word { Word (number_of (replayOf log.now (length out.old)).course) (replayOf log.now (length out.old)).applied result }
-    ensures out_after { out.new ≡ written (replayOf log.now (length out.old)) out.old }
+    ensures word { Word (number_of (replay_of log.now (length out.old)).course) (replay_of log.now (length out.old)).applied result }
+    ensures out_after { out.new ≡ written (replay_of log.now (length out.old)) out.old }
 {
     let s = replay::replay(log, out);
     word(s.refused, s.applied)
@@ -31,8 +31,8 @@ pub extern "C" fn rvz_replay(log: &[u8], out: &mut [u8]) -> u64
 // The length of the text.
 #[unsafe(no_mangle)]
 pub extern "C" fn rvz_dump(log: &[u8], out: &mut [u8]) -> u64
-    ensures word { Word (made_of dumpText log.now (length out.old)).refused (made_of dumpText log.now (length out.old)).size result }
-    ensures out_after { out.new ≡ made-output dumpText log.now out.old }
+    ensures word { Word (made_of dump_text log.now (length out.old)).refused (made_of dump_text log.now (length out.old)).size result }
+    ensures out_after { out.new ≡ made_output dump_text log.now out.old }
 {
     let d = dump::dump(log, out);
     word(d.refused, d.size)
@@ -50,8 +50,8 @@ pub extern "C" fn rvz_dump_read(text: &[u8], out: &mut [u8]) -> u64
 // The length of the smaller log.
 #[unsafe(no_mangle)]
 pub extern "C" fn rvz_shrink(log: &[u8], out: &mut [u8]) -> u64
-    ensures word { Word (made_of smallerOf log.now (length out.old)).refused (made_of smallerOf log.now (length out.old)).size result }
-    ensures out_after { out.new ≡ made-output smallerOf log.now out.old }
+    ensures word { Word (made_of smaller_of log.now (length out.old)).refused (made_of smaller_of log.now (length out.old)).size result }
+    ensures out_after { out.new ≡ made_output smaller_of log.now out.old }
 {
     let s = shrink::shrink(log, out);
     word(s.refused, s.size)
@@ -61,7 +61,7 @@ pub extern "C" fn rvz_shrink(log: &[u8], out: &mut [u8]) -> u64
 #[unsafe(no_mangle)]
 pub extern "C" fn rvz_sign(log: &[u8], out: &mut [u8]) -> u64
     ensures word { Word (sign_of log.now (length out.old)).refused (length (sign_of log.now (length out.old)).entries) result }
-    ensures out_after { out.new ≡ signOutput log.now out.old }
+    ensures out_after { out.new ≡ sign_output log.now out.old }
 {
     let s = sign::sign(log, out);
     word(s.refused, s.count)
@@ -82,7 +82,7 @@ pub extern "C" fn rvz_write(edition: u64, notes: &[u8], records: &[u8], out: &mu
 #[unsafe(no_mangle)]
 pub extern "C" fn rvz_stream_start(edition: u64, state: &mut [u8]) -> u64
     ensures word { Word (start_of edition (length state.old)) 0 result }
-    ensures state_after { state.new ≡ startedIn edition state.old }
+    ensures state_after { state.new ≡ started_in edition state.old }
 {
     let refused = stream::start(edition, state);
     word(refused, 0)

@@ -9,7 +9,7 @@ use borrow.Author.Tests.{le-ltb, eq-eqb, ne_eqb, eqb-true, eqb-false}
 use lib.Dec.{eqb}
 use lib.Arith.{mod-mul}
 use Rattle.select_allowed.proofs.Pins.{inside}
-use Rattle.select.specs.Select.{field_of, encoderRouted, pwmRouted, i2cRouted}
+use Rattle.select.specs.Select.{field_of, encoder_routed, pwm_routed, i2c_routed}
 
 -- two neighbouring fields of two bits make four bits
 four : (x : ℕ) → x % 16 ≡ x / 4 % 4 * 4 + x % 4
@@ -31,28 +31,28 @@ next select pin =
     let power : 2 ^ (2 * pin) * 4 ≡ 2 ^ suc (suc (2 * pin)) = omega arith in
     rw (up, ← power) (div-div-eq-div-mul select (2 ^ (2 * pin)) 4)
 
-pub two-pins : (select pin n : ℕ) → pin + 1 < 20 → n < 4 → eqb (select / 2 ^ (2 * pin) % 16) (5 * n) ≡ (eqb (field_of select pin) n && eqb (field_of select (pin + 1)) n)
-two-pins select pin n h k =
+pub two_pins : (select pin n : ℕ) → pin + 1 < 20 → n < 4 → eqb (select / 2 ^ (2 * pin) % 16) (5 * n) ≡ (eqb (field_of select pin) n && eqb (field_of select (pin + 1)) n)
+two_pins select pin n h k =
     let x = select / 2 ^ (2 * pin) in
     rw (← inside select pin (omega arith), ← inside select (pin + 1) h, ← next select pin, four x)
     (twice (x / 4 % 4) (x % 4) n (omega arith) k _ _ refl refl)
 
-pub pair-routed : (select i : ℕ) → i < 10 → eqb (select / 2 ^ (4 * i) % 16) 10 ≡ encoderRouted false select i
-pair-routed select i h = let e : 4 * i ≡ 2 * (2 * i) = omega arith in rw e (two-pins select (2 * i) 2 (omega arith) (omega arith))
+pub pair_routed : (select i : ℕ) → i < 10 → eqb (select / 2 ^ (4 * i) % 16) 10 ≡ encoder_routed false select i
+pair_routed select i h = let e : 4 * i ≡ 2 * (2 * i) = omega arith in rw e (two_pins select (2 * i) 2 (omega arith) (omega arith))
 
-pub i2c-pins : (select : ℕ) → eqb (select / 2 ^ 28 % 16) 15 ≡ i2cRouted false select
-i2c-pins select = two-pins select 14 3 (omega arith) (omega arith)
+pub i2c_pins : (select : ℕ) → eqb (select / 2 ^ 28 % 16) 15 ≡ i2c_routed false select
+i2c_pins select = two_pins select 14 3 (omega arith) (omega arith)
 
-pub no-pair : (select i : ℕ) → 10 ≤ i → false ≡ encoderRouted false select i
-no-pair select i h = rw (past select (2 * i) (omega arith))
+pub no_pair : (select i : ℕ) → 10 ≤ i → false ≡ encoder_routed false select i
+no_pair select i h = rw (past select (2 * i) (omega arith))
 
 -- a routing turns on its own pins alone
 module _ (s t : ℕ) where
-  pub encoder-by-pins : (i : ℕ) → field_of s (2 * i) ≡ field_of t (2 * i) → field_of s (2 * i + 1) ≡ field_of t (2 * i + 1) → encoderRouted false s i ≡ encoderRouted false t i
-  encoder-by-pins i p q = rw (p, q)
+  pub encoder_by_pins : (i : ℕ) → field_of s (2 * i) ≡ field_of t (2 * i) → field_of s (2 * i + 1) ≡ field_of t (2 * i + 1) → encoder_routed false s i ≡ encoder_routed false t i
+  encoder_by_pins i p q = rw (p, q)
 
-  pub pwm-by-pin : (i : ℕ) → field_of s i ≡ field_of t i → pwmRouted false s i ≡ pwmRouted false t i
-  pwm-by-pin i p = rw p
+  pub pwm_by_pin : (i : ℕ) → field_of s i ≡ field_of t i → pwm_routed false s i ≡ pwm_routed false t i
+  pwm_by_pin i p = rw p
 
-  pub i2c-by-pins : field_of s 14 ≡ field_of t 14 → field_of s 15 ≡ field_of t 15 → i2cRouted false s ≡ i2cRouted false t
-  i2c-by-pins p q = rw (p, q)
+  pub i2c_by_pins : field_of s 14 ≡ field_of t 14 → field_of s 15 ≡ field_of t 15 → i2c_routed false s ≡ i2c_routed false t
+  i2c_by_pins p q = rw (p, q)

@@ -9,11 +9,11 @@ pub use Rattle.select_allowed.specs.Allowed.{three, two, allowed}
 -- ---- "Encoder i is routed if its pair is 2, PWM i if pin i is 1, I2C if 14 and 15 are 3". Of a port: "bit 7 I2C .., bit 5 encoder .., bits
 -- 4 to 2 PWM 2 to 0"; "One encoder and three PWM channels per port"
 
-abbrev pub encoderRouted : Bool → ℕ → ℕ → Bool
-encoderRouted port select i = cond port (eqb i 0 && bit 5 select) (two select (2 * i) && two select (2 * i + 1))
+abbrev pub encoder_routed : Bool → ℕ → ℕ → Bool
+encoder_routed port select i = cond port (eqb i 0 && bit 5 select) (two select (2 * i) && two select (2 * i + 1))
 
-abbrev pub pwmRouted : Bool → ℕ → ℕ → Bool
-pwmRouted port select i = cond port (ltb i 3 && bit (2 + i) select) (eqb (field_of select i) 1)
+abbrev pub pwm_routed : Bool → ℕ → ℕ → Bool
+pwm_routed port select i = cond port (ltb i 3 && bit (2 + i) select) (eqb (field_of select i) 1)
 
-abbrev pub i2cRouted : Bool → ℕ → Bool
-i2cRouted port select = cond port (bit 7 select) (three select 14 && three select 15)
+abbrev pub i2c_routed : Bool → ℕ → Bool
+i2c_routed port select = cond port (bit 7 select) (three select 14 && three select 15)

@@ -1,7 +1,7 @@
 // The function select: which blocks are routed to the 20 DIO pins of an ELVIS III, or to a myRIO's expansion port.
 ghost use Rattle.std.specs.Prelude.{◌≡◌, true};
-ghost use Rattle.select.specs.Select.{field_of, encoderRouted, pwmRouted, i2cRouted};
-ghost use Rattle.select.specs.How.{pwmPins};
+ghost use Rattle.select.specs.Select.{field_of, encoder_routed, pwm_routed, i2c_routed};
+ghost use Rattle.select.specs.How.{pwm_pins};
 
 // The two bits of a pin.
 fn field(select: u64, pin: usize) -> u64
@@ -18,7 +18,7 @@ const PINS: u64 = 0x5555555555;
 
 // The PWM channels that are routed: bit 2 i of the answer for channel i, and nothing else.
 pub fn pwm_pins(port: bool, select: u64) -> u64
-    ensures { result ≡ pwmPins port select }
+    ensures { result ≡ pwm_pins port select }
 {
     if port {
         return (select >> 2) % 2 + (select >> 3) % 2 * 4 + (select >> 4) % 2 * 16;
@@ -28,7 +28,7 @@ pub fn pwm_pins(port: bool, select: u64) -> u64
 
 // The two pins of encoder i are 2 both: their four bits are 1010.
 pub fn encoder_routed(port: bool, select: u64, i: usize) -> bool
-    ensures { result ≡ encoderRouted port select i }
+    ensures { result ≡ encoder_routed port select i }
 {
     if port {
         return (i == 0) & ((select >> 5) % 2 == 1);
@@ -40,7 +40,7 @@ pub fn encoder_routed(port: bool, select: u64, i: usize) -> bool
 }
 
 fn port_pwm(select: u64, i: usize) -> bool
-    ensures { result ≡ pwmRouted true select i }
+    ensures { result ≡ pwm_routed true select i }
 {
     if i < 3 {
         return (select >> (2 + i)) % 2 == 1;
@@ -49,7 +49,7 @@ fn port_pwm(select: u64, i: usize) -> bool
 }
 
 pub fn pwm_routed(port: bool, select: u64, i: usize) -> bool
-    ensures { result ≡ pwmRouted port select i }
+    ensures { result ≡ pwm_routed port select i }
 {
     if port {
         return port_pwm(select, i);
@@ -59,7 +59,7 @@ pub fn pwm_routed(port: bool, select: u64, i: usize) -> bool
 
 // Pins 14 and 15 are 3 both.
 pub fn i2c_routed(port: bool, select: u64) -> bool
-    ensures { result ≡ i2cRouted port select }
+    ensures { result ≡ i2c_routed port select }
 {
     if port {
         return (select >> 7) % 2 == 1;

@@ -61,25 +61,25 @@ low_bit (suc (suc zero)) h = refl
 low_bit (suc (suc (suc zero))) h = refl
 low_bit (suc (suc (suc (suc v)))) h = absurd (omega (arith, h))
 
-pub threes-found : (s : ℕ) → bit_and (bit_and s (s / 2)) 366503875925 ≡ threes s
+pub threes_found : (s : ℕ) → bit_and (bit_and s (s / 2)) 366503875925 ≡ threes s
 unfolding mask
-threes-found s =
+threes_found s =
     masked (λ (x : ℕ). bit_and x (x / 2)) (λ (v : ℕ). eqb v 3)
     (λ x. and_shr x (x / 2) 2 ∙ rw (eighth x))
     (λ x. and_mod x (x / 2) 1 ∙ rw (low x, high x) (both_bits (x % 4) (omega arith)))
     20 s
 
-pub twos-found : (s : ℕ) → bit_and (bit_xor (bit_or s (s / 2)) s) 366503875925 ≡ twos s
+pub twos_found : (s : ℕ) → bit_and (bit_xor (bit_or s (s / 2)) s) 366503875925 ≡ twos s
 unfolding mask
-twos-found s =
+twos_found s =
     masked (λ (x : ℕ). bit_xor (bit_or x (x / 2)) x) (λ (v : ℕ). eqb v 2)
     (λ x. xor_shr (bit_or x (x / 2)) x 2 ∙ rw (or_shr x (x / 2) 2, eighth x))
     (λ x. xor_mod (bit_or x (x / 2)) x 1 ∙ rw (or_mod x (x / 2) 1, low x, high x) (high_bit (x % 4) (omega arith)))
     20 s
 
-pub ones-found : (s : ℕ) → bit_and (bit_xor (bit_or s (s / 2)) (s / 2)) 366503875925 ≡ ones s
+pub ones_found : (s : ℕ) → bit_and (bit_xor (bit_or s (s / 2)) (s / 2)) 366503875925 ≡ ones s
 unfolding mask
-ones-found s =
+ones_found s =
     masked (λ (x : ℕ). bit_xor (bit_or x (x / 2)) (x / 2)) (λ (v : ℕ). eqb v 1)
     (λ x. xor_shr (bit_or x (x / 2)) (x / 2) 2 ∙ rw (or_shr x (x / 2) 2, eighth x))
     (λ x. xor_mod (bit_or x (x / 2)) (x / 2) 1 ∙ rw (or_mod x (x / 2) 1, low x, high x) (low_bit (x % 4) (omega arith)))
@@ -115,13 +115,13 @@ last x y false true e = absurd (omega arith)
 last x y false false e = refl
 
 -- the mark of a pin is the bit at its place
-mark-last : (m : ℕ) (b : Bool) → (m * 4 + num b) % 2 ≡ num b
-mark-last m true = omega arith
-mark-last m false = omega arith
+mark_last : (m : ℕ) (b : Bool) → (m * 4 + num b) % 2 ≡ num b
+mark_last m true = omega arith
+mark_last m false = omega arith
 
-mark-rest : (m : ℕ) (b : Bool) → (m * 4 + num b) / 4 ≡ m
-mark-rest m true = omega arith
-mark-rest m false = omega arith
+mark_rest : (m : ℕ) (b : Bool) → (m * 4 + num b) / 4 ≡ m
+mark_rest m true = omega arith
+mark_rest m false = omega arith
 
 module _ (f : ℕ → Bool) where
   pub mark : (n s p : ℕ) → p < n → marks f n s / 2 ^ (2 * p) % 2 ≡ num (f (at s p))
@@ -129,28 +129,28 @@ module _ (f : ℕ → Bool) where
   mark zero s p h = absurd (not-suc-le-zero h)
   mark (suc n) s zero h =
       let m = marks f n (s / 4) in
-      rw (at_zero s) (ap (λ (x : ℕ). x % 2) (div-one (m * 4 + num (f (s % 4)))) ∙ mark-last m (f (s % 4)))
+      rw (at_zero s) (ap (λ (x : ℕ). x % 2) (div-one (m * 4 + num (f (s % 4)))) ∙ mark_last m (f (s % 4)))
   mark (suc n) s (suc p) h =
       let m = marks f n (s / 4) in
       rw (at_suc s p)
-      (ap (λ (x : ℕ). x % 2) (shift (m * 4 + num (f (s % 4))) p ∙ ap (λ (x : ℕ). x / 2 ^ (2 * p)) (mark-rest m (f (s % 4))))
+      (ap (λ (x : ℕ). x % 2) (shift (m * 4 + num (f (s % 4))) p ∙ ap (λ (x : ℕ). x / 2 ^ (2 * p)) (mark_rest m (f (s % 4))))
       ∙ mark n (s / 4) p (le_of_suc-le-suc h))
 
 -- equal marks are marks of the same pins
 module _ (f : ℕ → Bool) where
-  pub same-pins : (n s t : ℕ) → marks f n s ≡ marks f n t → (p : ℕ) → p < n → f (at s p) ≡ f (at t p)
+  pub same_pins : (n s t : ℕ) → marks f n s ≡ marks f n t → (p : ℕ) → p < n → f (at s p) ≡ f (at t p)
   unfolding marks
-  same-pins zero s t e p h = absurd (not-suc-le-zero h)
-  same-pins (suc n) s t e zero h = rw (at_zero s, at_zero t) (last _ _ (f (s % 4)) (f (t % 4)) e)
-  same-pins (suc n) s t e (suc p) h =
-      rw (at_suc s p, at_suc t p) (same-pins n (s / 4) (t / 4) (top _ _ (f (s % 4)) (f (t % 4)) e) p (le_of_suc-le-suc h))
+  same_pins zero s t e p h = absurd (not-suc-le-zero h)
+  same_pins (suc n) s t e zero h = rw (at_zero s, at_zero t) (last _ _ (f (s % 4)) (f (t % 4)) e)
+  same_pins (suc n) s t e (suc p) h =
+      rw (at_suc s p, at_suc t p) (same_pins n (s / 4) (t / 4) (top _ _ (f (s % 4)) (f (t % 4)) e) p (le_of_suc-le-suc h))
 
-  pub same-marks : (n s t : ℕ) → ((p : ℕ) → p < n → f (at s p) ≡ f (at t p)) → marks f n s ≡ marks f n t
+  pub same_marks : (n s t : ℕ) → ((p : ℕ) → p < n → f (at s p) ≡ f (at t p)) → marks f n s ≡ marks f n t
   unfolding marks
-  same-marks zero s t h = refl
-  same-marks (suc n) s t h =
+  same_marks zero s t h = refl
+  same_marks (suc n) s t h =
       let first : f (s % 4) ≡ f (t % 4) = rw (at_zero s, at_zero t) at (h 0 (omega arith)) in
-      let rest = same-marks n (s / 4) (t / 4) (λ p l. rw (at_suc s p, at_suc t p) at (h (suc p) (omega arith))) in
+      let rest = same_marks n (s / 4) (t / 4) (λ p l. rw (at_suc s p, at_suc t p) at (h (suc p) (omega arith))) in
       rw (first, rest)
 
 -- ---- pair by pair
@@ -164,8 +164,8 @@ unfoldable pub pairs : ℕ → ℕ
 pairs zero = 0
 pairs (suc n) = pairs n * 16 + 1
 
-low-pin : (e m : ℕ) (a b : Bool) → bit_and ((e * 4 + num b) * 4 + num a) (m * 16 + 1) ≡ bit_and e m * 16 + num a
-low-pin e m a b =
+low_pin : (e m : ℕ) (a b : Bool) → bit_and ((e * 4 + num b) * 4 + num a) (m * 16 + 1) ≡ bit_and e m * 16 + num a
+low_pin e m a b =
     let r : (e * 4 + num b) * 4 + num a ≡ e * 16 + (num b * 4 + num a) = omega arith in
     ap (λ (x : ℕ). bit_and x (m * 16 + 1)) r ∙ and_block 4 e m (num b * 4 + num a) 1 (small a b) (omega arith) ∙ ap (λ (x : ℕ). bit_and e m * 16 + x) (one a b)
   where
@@ -187,11 +187,11 @@ pair_same x e true false q = absurd (omega arith)
 pair_same x e false true q = absurd (omega arith)
 pair_same x e false false q = refl
 
-pair-rest : (x e : ℕ) (a b : Bool) → (x * 16 + num a) * 5 ≡ (e * 4 + num b) * 4 + num a → x * 5 ≡ e
-pair-rest x e true true q = omega arith
-pair-rest x e true false q = absurd (omega arith)
-pair-rest x e false true q = absurd (omega arith)
-pair-rest x e false false q = omega arith
+pair_rest : (x e : ℕ) (a b : Bool) → (x * 16 + num a) * 5 ≡ (e * 4 + num b) * 4 + num a → x * 5 ≡ e
+pair_rest x e true true q = omega arith
+pair_rest x e true false q = absurd (omega arith)
+pair_rest x e false true q = absurd (omega arith)
+pair_rest x e false false q = omega arith
 
 at_low : (s i : ℕ) → at s (2 * suc i) ≡ at (s / 4 / 4) (2 * i)
 at_low s i = let e : 2 * suc i ≡ suc (suc (2 * i)) = omega arith in rw e (at_suc s (suc (2 * i)) ∙ at_suc (s / 4) (2 * i))
@@ -208,17 +208,17 @@ module _ (f : ℕ → Bool) where
   unfolding marks double pairs
   alike zero s e i h = absurd (not-suc-le-zero h)
   alike (suc n) s e zero h =
-      let q = rw (low-pin (marks f (double n) (s / 4 / 4)) (pairs n) (f (s % 4)) (f (s / 4 % 4))) at e in
+      let q = rw (low_pin (marks f (double n) (s / 4 / 4)) (pairs n) (f (s % 4)) (f (s / 4 % 4))) at e in
       rw (at_zero s, at_one s) (pair_same _ _ (f (s % 4)) (f (s / 4 % 4)) q)
   alike (suc n) s e (suc i) h =
-      let q = rw (low-pin (marks f (double n) (s / 4 / 4)) (pairs n) (f (s % 4)) (f (s / 4 % 4))) at e in
-      rw (at_low s i, at_high s i) (alike n (s / 4 / 4) (pair-rest _ _ (f (s % 4)) (f (s / 4 % 4)) q) i (le_of_suc-le-suc h))
+      let q = rw (low_pin (marks f (double n) (s / 4 / 4)) (pairs n) (f (s % 4)) (f (s / 4 % 4))) at e in
+      rw (at_low s i, at_high s i) (alike n (s / 4 / 4) (pair_rest _ _ (f (s % 4)) (f (s / 4 % 4)) q) i (le_of_suc-le-suc h))
 
-  pub all-pairs : (n s : ℕ) → ((i : ℕ) → i < n → f (at s (2 * i)) ≡ f (at s (2 * i + 1))) → bit_and (marks f (double n) s) (pairs n) * 5 ≡ marks f (double n) s
+  pub all_pairs : (n s : ℕ) → ((i : ℕ) → i < n → f (at s (2 * i)) ≡ f (at s (2 * i + 1))) → bit_and (marks f (double n) s) (pairs n) * 5 ≡ marks f (double n) s
   unfolding marks double pairs
-  all-pairs zero s h = refl
-  all-pairs (suc n) s h =
+  all_pairs zero s h = refl
+  all_pairs (suc n) s h =
       let first : f (s % 4) ≡ f (s / 4 % 4) = rw (at_zero s, at_one s) at (h 0 (omega arith)) in
-      let rest = all-pairs n (s / 4 / 4) (λ i l. rw (at_low s i, at_high s i) at (h (suc i) (omega arith))) in
-      rw (low-pin (marks f (double n) (s / 4 / 4)) (pairs n) (f (s % 4)) (f (s / 4 % 4)), first)
+      let rest = all_pairs n (s / 4 / 4) (λ i l. rw (at_low s i, at_high s i) at (h (suc i) (omega arith))) in
+      rw (low_pin (marks f (double n) (s / 4 / 4)) (pairs n) (f (s % 4)) (f (s / 4 % 4)), first)
       (omega (arith, rest))

@@ -10,5 +10,5 @@ pub inside : (select pin : ℕ) → pin < 20 → select / 2 ^ (2 * pin) % 4 ≡ 
 unfolding field_of
 inside select pin h = rw (lt-ltb pin 20 h)
 
-pub port-allowed : (port : Bool) (select : ℕ) → port ≡ true → true ≡ allowed port select
-port-allowed port select p = rw p
+pub port_allowed : (port : Bool) (select : ℕ) → port ≡ true → true ≡ allowed port select
+port_allowed port select p = rw p

@@ -20,7 +20,7 @@ none_below f (suc n) e k h = let p = neither (some f n) (f n) e in go p.1 (none_
     go last below true q = ap f (eqb-true k n q) ∙ last
     go last below false q = below (let d = eqb-false k n q in omega (arith, d))
 
-pub all-fail : (f : ℕ → Bool) (n : ℕ) → ((k : ℕ) → k < n → f k ≡ false) → some f n ≡ false
+pub all_fail : (f : ℕ → Bool) (n : ℕ) → ((k : ℕ) → k < n → f k ≡ false) → some f n ≡ false
 unfolding some
-all-fail f zero h = refl
-all-fail f (suc n) h = nor (some f n) (f n) (all-fail f n (λ k l. h k (omega arith))) (h n (omega arith))
+all_fail f zero h = refl
+all_fail f (suc n) h = nor (some f n) (f n) (all_fail f n (λ k l. h k (omega arith))) (h n (omega arith))

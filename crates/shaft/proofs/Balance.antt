@@ -10,20 +10,20 @@ use Rattle.bits.specs.Bits.{num}
 use Rattle.encoder.specs.Encoder.{place, places}
 use Rattle.shaft.specs.Shaft.{quarter, phase, Near, doubles, step_of, steps}
 use Rattle.shaft.proofs.Group.{shuffle}
-use Rattle.shaft.proofs.Phase.{both, Small, backOf, counts, shown, place-place, place-lt, places-to, places-lt, both_is, quarter-lt, quarter-add, phase-is}
+use Rattle.shaft.proofs.Phase.{both, Small, back_of, counts, shown, place_place, place_lt, places_to, places_lt, both_is, quarter_lt, quarter_add, phase_is}
 
 abbrev pub AllPins : List ℕ → Type 0
 AllPins [] = Unit {0}
 AllPins (v ∷ vs) = (v < 4) × AllPins vs
 
 -- the last position
-abbrev pub lastFrom : ℤ → List ℤ → ℤ
-lastFrom p [] = p
-lastFrom p (q ∷ ps) = lastFrom q ps
+abbrev pub last_from : ℤ → List ℤ → ℤ
+last_from p [] = p
+last_from p (q ∷ ps) = last_from q ps
 
 -- of the doubles, k went back
 abbrev pub Balanced : ℕ → ℤ → List ℕ → List ℤ → ℕ → Type 0
-Balanced v p vs ps k = p +ℤ steps (v ∷ vs) +ℤ pos (2 * doubles (v ∷ vs)) ≡ lastFrom p ps +ℤ pos (4 * k)
+Balanced v p vs ps k = p +ℤ steps (v ∷ vs) +ℤ pos (2 * doubles (v ∷ vs)) ≡ last_from p ps +ℤ pos (4 * k)
 
 none : (v : ℕ) (p : ℤ) → Balanced v p [] [] 0
 none v p = ap (λ (x : ℤ). x +ℤ pos 0) (+ℤ_idr p)
@@ -33,16 +33,16 @@ module _ (v w : ℕ) (p q m : ℤ) (hv : v < 4) (hw : w < 4) (to : q ≡ p +ℤ 
   double : num (both v w) ≡ num (eqb (quarter m) 2)
   double = both_is v w hv hw ∙ ap (λ (i : ℕ). num (eqb i 2)) shows
 
-  pub back-within : backOf m ≤ num (both v w)
-  back-within = omega (arith, (counts m small).within, double)
+  pub back_within : back_of m ≤ num (both v w)
+  back_within = omega (arith, (counts m small).within, double)
 
-  pub more : (vs : List ℕ) (ps : List ℤ) (k : ℕ) → Balanced w q vs ps k → Balanced v p (w ∷ vs) (q ∷ ps) (backOf m + k)
+  pub more : (vs : List ℕ) (ps : List ℤ) (k : ℕ) → Balanced w q vs ps k → Balanced v p (w ∷ vs) (q ∷ ps) (back_of m + k)
   more vs ps k h =
       ap (λ (i : ℕ). p +ℤ (step_of i +ℤ steps (w ∷ vs)) +ℤ pos (2 * (num (both v w) + doubles (w ∷ vs)))) shows
       ∙ ap (λ (i : ℕ). p +ℤ (step_of (quarter m) +ℤ steps (w ∷ vs)) +ℤ pos i) (doubled (num (both v w)) (num (eqb (quarter m) 2)) (doubles (w ∷ vs)) double)
-      ∙ shuffle ◌+ℤ◌ +ℤ_assoc +ℤ_comm p (step_of (quarter m)) (steps (w ∷ vs)) (pos (2 * num (eqb (quarter m) 2))) (pos (2 * doubles (w ∷ vs))) m (lastFrom q ps) (pos (4 * k)) (pos (4 * backOf m)) (counts m small).sum
+      ∙ shuffle ◌+ℤ◌ +ℤ_assoc +ℤ_comm p (step_of (quarter m)) (steps (w ∷ vs)) (pos (2 * num (eqb (quarter m) 2))) (pos (2 * doubles (w ∷ vs))) m (last_from q ps) (pos (4 * k)) (pos (4 * back_of m)) (counts m small).sum
       (ap (λ (y : ℤ). y +ℤ steps (w ∷ vs) +ℤ pos (2 * doubles (w ∷ vs))) (sym to) ∙ h)
-      ∙ ap (λ (i : ℕ). lastFrom q ps +ℤ pos i) (fourfold (backOf m) k)
+      ∙ ap (λ (i : ℕ). last_from q ps +ℤ pos i) (fourfold (back_of m) k)
     where
       doubled : (a b d : ℕ) → a ≡ b → 2 * (a + d) ≡ 2 * b + 2 * d
       doubled a b d e = omega arith
@@ -50,8 +50,8 @@ module _ (v w : ℕ) (p q m : ℤ) (hv : v < 4) (hw : w < 4) (to : q ≡ p +ℤ 
       fourfold : (a b : ℕ) → 4 * a + 4 * b ≡ 4 * (a + b)
       fourfold a b = omega arith
 
-phase-lt : (p : ℤ) (v : ℕ) → phase p ≡ v → v < 4
-phase-lt p v e = subst (λ (n : ℕ). n < 4) (sym (phase-is p) ∙ e) (place-lt (quarter p) (quarter-lt p))
+phase_lt : (p : ℤ) (v : ℕ) → phase p ≡ v → v < 4
+phase_lt p v e = subst (λ (n : ℕ). n < 4) (sym (phase_is p) ∙ e) (place_lt (quarter p) (quarter_lt p))
 
 -- every fitting motion is balanced, by the doubles that went back
 pub balance : (v : ℕ) (p : ℤ) (vs : List ℕ) (ps : List ℤ) → map phase (p ∷ ps) ≡ v ∷ vs → Near (p ∷ ps) → (k : ℕ) × (k ≤ doubles (v ∷ vs)) × Balanced v p vs ps k
@@ -63,11 +63,11 @@ balance v p (w ∷ vs) (q ∷ ps) e n =
     let at_p : phase p ≡ v = cc in
     let at-q : phase q ≡ w = cc in
     let r = balance w q vs ps (cc) n.1 in
-    let hv = phase-lt p v at_p in
-    let hw = phase-lt q w at-q in
+    let hv = phase_lt p v at_p in
+    let hw = phase_lt q w at-q in
     let to : q ≡ p +ℤ m = sym (+ℤ_comm p m ∙ -ℤ-+ℤ_cancel q p) in
     let shows : places v w ≡ quarter m = subst (λ (a : ℕ). places a w ≡ quarter m) at_p (subst (λ (b : ℕ). places (phase p) b ≡ quarter m) at-q (shown p q m to)) in
-    (backOf m + r.0, omega (arith, back-within v w p q m hv hw to n.0 shows, r.1), more v w p q m hv hw to n.0 shows vs ps r.0 r.2)
+    (back_of m + r.0, omega (arith, back_within v w p q m hv hw to n.0 shows, r.1), more v w p q m hv hw to n.0 shows vs ps r.0 r.2)
 
 -- a move that the pins show as j places forward, with the wanted number of doubles back left for the rest
 record Chosen (j k d : ℕ) : Type 0 where
@@ -75,7 +75,7 @@ record Chosen (j k d : ℕ) : Type 0 where
   small : Small m
   shows : j ≡ quarter m
   rest : ℕ
-  sum : backOf m + rest ≡ k
+  sum : back_of m + rest ≡ k
   left : rest ≤ d
 
 choose : (j k d : ℕ) → j < 4 → k ≤ num (eqb j 2) + d → Chosen j k d
@@ -96,8 +96,8 @@ reach v p [] e a k h =
     let zero_is : 0 ≡ k = omega arith in
     ([], ap (λ (u : ℕ). u ∷ []) e, tt, subst (λ (i : ℕ). Balanced v p [] [] i) zero_is (none v p))
 reach v p (w ∷ vs) e a k h =
-    let hv = phase-lt p v e in
-    let c = choose (places v w) k (doubles (w ∷ vs)) (places-lt v w) (omega (arith, h, both_is v w hv a.0)) in
+    let hv = phase_lt p v e in
+    let c = choose (places v w) k (doubles (w ∷ vs)) (places_lt v w) (omega (arith, h, both_is v w hv a.0)) in
     let q = p +ℤ c.m in
     let r = reach w q vs (arrives c.m hv c.shows) a.1 c.rest c.left in (
       q ∷ r.0,
@@ -108,11 +108,11 @@ reach v p (w ∷ vs) e a k h =
   where
     arrives : (m : ℤ) → v < 4 → places v w ≡ quarter m → phase (p +ℤ m) ≡ w
     arrives m hv shows =
-        phase-is (p +ℤ m)
-        ∙ ap place (quarter-add p m)
+        phase_is (p +ℤ m)
+        ∙ ap place (quarter_add p m)
         ∙ ap (λ (i : ℕ). place ((quarter p + i) % 4)) (sym shows)
-        ∙ ap (λ (i : ℕ). place ((i + places v w) % 4)) (sym (place-place (quarter p) (quarter-lt p)) ∙ ap place (sym (phase-is p) ∙ e))
-        ∙ places-to v w hv a.0
+        ∙ ap (λ (i : ℕ). place ((i + places v w) % 4)) (sym (place_place (quarter p) (quarter_lt p)) ∙ ap place (sym (phase_is p) ∙ e))
+        ∙ places_to v w hv a.0
 
     near : (m : ℤ) → Small m → Small (p +ℤ m -ℤ p)
     near m = subst Small (sym (ap (λ (y : ℤ). y -ℤ p) (+ℤ_comm p m) ∙ +ℤ-neg_ℤ_cancel m p))

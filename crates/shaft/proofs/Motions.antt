@@ -11,33 +11,33 @@ use Rattle.shaft.specs.Shaft.{Fits, travel, doubles, steps, gap_of, gap}
 use Rattle.shaft.specs.Motions.{Gaps, Open, Sign}
 use Rattle.shaft.proofs.Group.{travels, crossed}
 use Rattle.shaft.proofs.Phase.{starts}
-use Rattle.shaft.proofs.Balance.{AllPins, lastFrom, Balanced, balance, reach}
-use Rattle.shaft.proofs.Size.{even, beyond, top, bottom, far, ends, same, never_back, never-forward}
+use Rattle.shaft.proofs.Balance.{AllPins, last_from, Balanced, balance, reach}
+use Rattle.shaft.proofs.Size.{even, beyond, top, bottom, far, ends, same, never_back, never_forward}
 
 -- ---- a motion's travel and the counted steps, of d doubles k back
 
 abbrev Tied : List ℕ → List ℤ → ℕ → Type 0
 Tied vs ps k = travel ps +ℤ pos (4 * k) ≡ steps vs +ℤ pos (2 * doubles vs)
 
-last-is : (p d : ℤ) (ps : List ℤ) → get_or (p ∷ ps) (length ps) d ≡ lastFrom p ps
-last-is p d [] = refl
-last-is p d (q ∷ ps) = last-is q d ps
+last_is : (p d : ℤ) (ps : List ℤ) → get_or (p ∷ ps) (length ps) d ≡ last_from p ps
+last_is p d [] = refl
+last_is p d (q ∷ ps) = last_is q d ps
 
 tied : (v : ℕ) (p : ℤ) (vs : List ℕ) (ps : List ℤ) (k : ℕ) → Balanced v p vs ps k → Tied (v ∷ vs) (p ∷ ps) k
 tied v p vs ps k b =
-    ap (λ (z : ℤ). z -ℤ p +ℤ pos (4 * k)) (last-is p p ps)
-    ∙ travels ◌+ℤ◌ +ℤ_assoc +ℤ_comm (pos 0) neg_ℤ +ℤ_idr +ℤ_invr p (steps (v ∷ vs)) (pos (2 * doubles (v ∷ vs))) (lastFrom p ps) (pos (4 * k)) b
+    ap (λ (z : ℤ). z -ℤ p +ℤ pos (4 * k)) (last_is p p ps)
+    ∙ travels ◌+ℤ◌ +ℤ_assoc +ℤ_comm (pos 0) neg_ℤ +ℤ_idr +ℤ_invr p (steps (v ∷ vs)) (pos (2 * doubles (v ∷ vs))) (last_from p ps) (pos (4 * k)) b
 
-motion-tied : (vs : List ℕ) (ps : List ℤ) → Fits ps vs → (k : ℕ) × (k ≤ doubles vs) × Tied vs ps k
-motion-tied [] [] f = (0, omega arith, refl)
-motion-tied [] (p ∷ ps) f = let e = f.0 in let z : ◌≡◌ {A = ℕ} 0 1 = cc in absurd (omega arith)
-motion-tied (v ∷ vs) [] f = let e = f.0 in let z : ◌≡◌ {A = ℕ} 0 1 = cc in absurd (omega arith)
-motion-tied (v ∷ vs) (p ∷ ps) f = let b = balance v p vs ps f.0 f.1 in (b.0, b.1, tied v p vs ps b.0 b.2)
+motion_tied : (vs : List ℕ) (ps : List ℤ) → Fits ps vs → (k : ℕ) × (k ≤ doubles vs) × Tied vs ps k
+motion_tied [] [] f = (0, omega arith, refl)
+motion_tied [] (p ∷ ps) f = let e = f.0 in let z : ◌≡◌ {A = ℕ} 0 1 = cc in absurd (omega arith)
+motion_tied (v ∷ vs) [] f = let e = f.0 in let z : ◌≡◌ {A = ℕ} 0 1 = cc in absurd (omega arith)
+motion_tied (v ∷ vs) (p ∷ ps) f = let b = balance v p vs ps f.0 f.1 in (b.0, b.1, tied v p vs ps b.0 b.2)
 
-gap-tied : (vs : List ℕ) → AllPins vs → (k : ℕ) → k ≤ doubles vs → (ps : List ℤ) × Fits ps vs × Tied vs ps k
-gap-tied [] a zero h = ([], (refl, tt), refl)
-gap-tied [] a (suc k) h = absurd (omega arith)
-gap-tied (v ∷ vs) a k h =
+gap_tied : (vs : List ℕ) → AllPins vs → (k : ℕ) → k ≤ doubles vs → (ps : List ℤ) × Fits ps vs × Tied vs ps k
+gap_tied [] a zero h = ([], (refl, tt), refl)
+gap_tied [] a (suc k) h = absurd (omega arith)
+gap_tied (v ∷ vs) a k h =
     let r = reach v (pos (place v)) vs (starts v a.0) a.1 k h in
     (pos (place v) ∷ r.0, (r.1, r.2), tied v (pos (place v)) vs r.0 k r.3)
 
@@ -48,8 +48,8 @@ exact vs ps k = crossed ◌+ℤ◌ +ℤ_assoc +ℤ_comm (pos 0) neg_ℤ +ℤ_idr
 
 pub gaps : (vs : List ℕ) → AllPins vs → Gaps vs
 gaps vs a = record {
-  every-motion = λ ps f. let m = motion-tied vs ps f in (m.0, m.1, exact vs ps m.0 m.2);
-  every-gap = λ k h. let m = gap-tied vs a k h in (m.0, m.1, exact vs m.0 k m.2);
+  every_motion = λ ps f. let m = motion_tied vs ps f in (m.0, m.1, exact vs ps m.0 m.2);
+  every_gap = λ k h. let m = gap_tied vs a k h in (m.0, m.1, exact vs m.0 k m.2);
 }
 
 -- ---- the sign
@@ -57,9 +57,9 @@ gaps vs a = record {
 pub sign : (vs : List ℕ) → AllPins vs → Sign vs
 sign vs a = record {
   settled = λ l ps f.
-      let m = motion-tied vs ps f in
+      let m = motion_tied vs ps f in
       beyond (doubles vs) (travel ps) (steps vs) m.0 m.1 l (even (travel ps) (steps vs) (4 * m.0) (2 * doubles vs) m.2);
-  clean = λ none ps f. let m = motion-tied vs ps f in no_gap (doubles vs) m.0 (travel ps) (steps vs) none m.1 m.2;
+  clean = λ none ps f. let m = motion_tied vs ps f in no_gap (doubles vs) m.0 (travel ps) (steps vs) none m.1 m.2;
   unsettled = two;
 }
   where
@@ -72,8 +72,8 @@ sign vs a = record {
     two : nat_abs (steps vs) ≤ 2 * doubles vs → 0 < doubles vs → Open vs
     two l some =
         let d = doubles vs in
-        let x = gap-tied vs a 0 (omega arith) in
-        let y = gap-tied vs a d (omega arith) in
+        let x = gap_tied vs a 0 (omega arith) in
+        let y = gap_tied vs a d (omega arith) in
         let t = travel x.0 in
         let u = travel y.0 in
         let high = even t (steps vs) 0 (2 * d) x.2 in
@@ -84,7 +84,7 @@ sign vs a = record {
           one = x.0;
           other = y.0;
           fit = (x.1, y.1);
-          apart = (never_back t up, never-forward u down);
+          apart = (never_back t up, never_forward u down);
           differ = λ e. omega (arith, far d t u (steps vs) high low (same t u up down e));
           opposite = ends d t u (steps vs) high low;
         }

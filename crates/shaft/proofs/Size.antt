@@ -31,9 +31,9 @@ even t s m n h =
     ∙ ap (λ (z : ℤ). z +ℤ pos (n + down t)) (raised s))
 
 -- the lesser of the two is 0
-down-none : (z : ℤ) → down z ≤ up z → down z ≡ 0
-down-none (pos n) h = refl
-down-none (negsuc n) h = absurd (omega arith)
+down_none : (z : ℤ) → down z ≤ up z → down z ≡ 0
+down_none (pos n) h = refl
+down_none (negsuc n) h = absurd (omega arith)
 
 up_none : (z : ℤ) → up z ≤ down z → up z ≡ 0
 up_none (pos n) h = omega arith
@@ -43,10 +43,10 @@ sized : (z : ℤ) → nat_abs z ≡ up z + down z
 sized (pos n) = omega arith
 sized (negsuc n) = omega arith
 
-goes-forward : (z : ℤ) → down z < up z → direction z ≡ forward
-goes-forward (pos zero) h = absurd (omega arith)
-goes-forward (pos (suc n)) h = refl
-goes-forward (negsuc n) h = absurd (omega arith)
+goes_forward : (z : ℤ) → down z < up z → direction z ≡ forward
+goes_forward (pos zero) h = absurd (omega arith)
+goes_forward (pos (suc n)) h = refl
+goes_forward (negsuc n) h = absurd (omega arith)
 
 goes_back : (z : ℤ) → up z < down z → direction z ≡ backward
 goes_back (pos n) h = absurd (omega arith)
@@ -66,7 +66,7 @@ module _ (d : ℕ) where
   -- with no double back the travel is the steps and 2d, and with all back it is the steps less 2d
   module _ (t u s : ℤ) (high : Even t s 0 (2 * d)) (low : Even u s (4 * d) (2 * d)) where
     pub top : nat_abs s ≤ 2 * d → down t ≡ 0
-    top h = down-none t (omega (arith, sized s))
+    top h = down_none t (omega (arith, sized s))
 
     pub bottom : nat_abs s ≤ 2 * d → up u ≡ 0
     bottom h = up_none u (omega (arith, sized s))
@@ -75,7 +75,7 @@ module _ (d : ℕ) where
     far e = omega (arith, ap up e, ap down e)
 
     pub ends : nat_abs s < 2 * d → (direction t ≡ forward) × (direction u ≡ backward)
-    ends h = (goes-forward t (omega (arith, sized s)), goes_back u (omega (arith, sized s)))
+    ends h = (goes_forward t (omega (arith, sized s)), goes_back u (omega (arith, sized s)))
 
 -- where one does not go back and the other not forward, their directions are the same only if both stand still
 pub same : (t u : ℤ) → down t ≡ 0 → up u ≡ 0 → direction t ≡ direction u → t ≡ u
@@ -90,5 +90,5 @@ same (negsuc m) u a b e = absurd (omega arith)
 pub never_back : (t : ℤ) → down t ≡ 0 → direction t ≡ backward → ⊥
 never_back t a e = omega (arith, ap down (same t (negsuc 0) a refl e))
 
-pub never-forward : (u : ℤ) → up u ≡ 0 → direction u ≡ forward → ⊥
-never-forward u a e = omega (arith, ap up (same (pos 1) u refl a (sym e)))
+pub never_forward : (u : ℤ) → up u ≡ 0 → direction u ≡ forward → ⊥
+never_forward u a e = omega (arith, ap up (same (pos 1) u refl a (sym e)))

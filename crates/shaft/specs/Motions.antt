@@ -6,9 +6,9 @@ use Rattle.shaft.specs.Shaft.{Fits, travel, forward, backward, direction, double
 -- the gaps are 4k - 2d, "k from 0 to d", and no others
 pub record Gaps (vs : List ℕ) : Type 0 where
   -- A. for any motion "the gap is 4k - 2d for some k from 0 to d"
-  pub every-motion : (ps : List ℤ) → Fits ps vs → (k : ℕ) × (k ≤ doubles vs) × (gap_of vs ps ≡ gap (doubles vs) k)
+  pub every_motion : (ps : List ℤ) → Fits ps vs → (k : ℕ) × (k ≤ doubles vs) × (gap_of vs ps ≡ gap (doubles vs) k)
   -- B. "for every k from 0 to d some fitting motion has exactly that gap"
-  pub every-gap : (k : ℕ) → k ≤ doubles vs → (ps : List ℤ) × Fits ps vs × (gap_of vs ps ≡ gap (doubles vs) k)
+  pub every_gap : (k : ℕ) → k ≤ doubles vs → (ps : List ℤ) × Fits ps vs × (gap_of vs ps ≡ gap (doubles vs) k)
 
 -- two fitting motions, one that does not go back and one that does not go forward, of which not both stand still
 pub record Open (vs : List ℕ) : Type 0 where

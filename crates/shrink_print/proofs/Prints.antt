@@ -5,13 +5,13 @@ use Prim.Native.Nat.{ℕ, ◌≤◌}
 use native.Mathlib.Omega.{arith}
 use lib.ListN.{length}
 use Rattle.made.specs.declared.Made.{Made}
-use Rattle.made.specs.Made.{made_of, outputOf}
-use Rattle.shrink.specs.Shrink.{smallerOf}
-use Rattle.shrink.proofs.Whole.{smaller-small}
+use Rattle.made.specs.Made.{made_of, output_of}
+use Rattle.shrink.specs.Shrink.{smaller_of}
+use Rattle.shrink.proofs.Whole.{smaller_small}
 use Rattle.printed.specs.declared.Printed.{Printed}
 use Rattle.printed.specs.Printed.{MadePrinted, Printing}
-use Rattle.printed.proofs.OfLogs.{made-printed}
+use Rattle.printed.proofs.OfLogs.{made_printed}
 
-pub shrink-printed : (log out mid out' : List ℕ) (d : Made) (p : Printed) → 32768 ≤ length out → d ≡ made_of smallerOf log (length out) → mid ≡ outputOf smallerOf log out
-    → Printing d.refused d.index d.size mid out' p → MadePrinted smallerOf log out' p
-shrink-printed log out mid out' d p room is left x = made-printed smallerOf log out (λ c. omega (arith, smaller-small log c)) (omega arith) d is mid left out' p x
+pub shrink_printed : (log out mid out' : List ℕ) (d : Made) (p : Printed) → 32768 ≤ length out → d ≡ made_of smaller_of log (length out) → mid ≡ output_of smaller_of log out
+    → Printing d.refused d.index d.size mid out' p → MadePrinted smaller_of log out' p
+shrink_printed log out mid out' d p room is left x = made_printed smaller_of log out (λ c. omega (arith, smaller_small log c)) (omega arith) d is mid left out' p x

@@ -1,7 +1,7 @@
 // What `rvz shrink` writes: the smaller log, for standard output, or the log's refusal, for standard error.
 ghost use Rattle.std.specs.Prelude.{◌≤◌, length};
 ghost use Rattle.io.specs.Counts.{IsPrefixLen};
-ghost use Rattle.shrink.specs.Shrink.{smallerOf};
+ghost use Rattle.shrink.specs.Shrink.{smaller_of};
 ghost use Rattle.printed.specs.Printed.{MadePrinted};
 
 use libc::STDIN_FILENO;
@@ -9,7 +9,7 @@ use printed::Printed;
 
 pub fn shrink_log(text: &mut [u8], log: &[u8]) -> Printed
     requires { 32768 ≤ length text.old }
-    ensures { MadePrinted smallerOf log.now text.new result }
+    ensures { MadePrinted smaller_of log.now text.new result }
 {
     let s = shrink::shrink(log, text);
     printed::told(text, s.refused, s.index, s.size)

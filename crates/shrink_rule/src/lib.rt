@@ -1,6 +1,6 @@
 // Which records change nothing: the rule, record by record, with each encoder's previous pins.
 ghost use Rattle.std.specs.Prelude.{◌≡◌, cond, ◌+◌, ◌<◌, ◌≤◌, length, take, drop};
-ghost use Rattle.shrink_rule.specs.How.{sortBy, sortOf, GoodSort, forgotten, dropsBy, metBy};
+ghost use Rattle.shrink_rule.specs.How.{sort_by, sort_of, GoodSort, forgotten, drops_by, met_by};
 
 // What a record is to the rule: ticks of 0, pins, a write to CNFG, with the encoder's place of 20, a write to a bank's SELECT, or another.
 #[derive(Drop)]
@@ -21,7 +21,7 @@ fn wide(b: u8) -> usize
 }
 
 fn sort_by(kind: u8, block: u8, encoder: usize, bank: usize, v: u64) -> Sort
-    ensures { result ≡ sortBy kind block encoder bank v }
+    ensures { result ≡ sort_by kind block encoder bank v }
 {
     if kind == 3 {
         return Sort::Pins {
@@ -50,7 +50,7 @@ fn sort_by(kind: u8, block: u8, encoder: usize, bank: usize, v: u64) -> Sort
 // The record that starts at a place. The rule sees a record by this function alone.
 pub fn sort_at(log: &[u8], at: usize) -> Sort
     requires { at + 16 ≤ length log.now }
-    ensures { result ≡ sortOf (take 16 (drop at log.now)) }
+    ensures { result ≡ sort_of (take 16 (drop at log.now)) }
 {
     let bank = wide(log[at + 4]);
     let channel = wide(log[at + 2]);
@@ -85,8 +85,8 @@ fn forget(last: &mut [u8; 20], bank: usize)
 pub fn drops(last: &mut [u8; 20], s: Sort) -> bool
     requires last_len { length last.old ≡ 20 }
     requires good_sort { GoodSort s }
-    ensures value { result ≡ dropsBy last.old s }
-    ensures last_after { last.new ≡ metBy last.old s }
+    ensures value { result ≡ drops_by last.old s }
+    ensures last_after { last.new ≡ met_by last.old s }
 {
     match s {
         Sort::Idle => true,

@@ -5,16 +5,16 @@ use mathlib.Core.List.{List, [], ◌∷◌, map}
 use Prim.Native.Nat.{ℕ, suc, ◌+◌, ◌-◌, ◌%◌}
 use native.Mathlib.Omega.{arith}
 use Rattle.bits.specs.Bits.{bit, rises}
-use Rattle.laws.specs.Each.{mapFrom}
+use Rattle.laws.specs.Each.{map_from}
 use Rattle.edition.specs.declared.Edition.{Edition}
 use Rattle.encoder.specs.declared.Encoder.{Encoder}
-use Rattle.encoder.specs.Encoder.{en, rst, mode, kept, place, places, quadrature, clocked, counted, onPins}
-use Rattle.encoder.proofs.Counting.{pins-stored}
+use Rattle.encoder.specs.Encoder.{en, rst, mode, kept, place, places, quadrature, clocked, counted, on_pins}
+use Rattle.encoder.proofs.Counting.{pins_stored}
 use Rattle.pwm.specs.declared.Pwm.{Pwm}
 use Rattle.pwm.specs.Pwm as pwm
-use Rattle.select.specs.Select.{pwmRouted}
+use Rattle.select.specs.Select.{pwm_routed}
 use Rattle.bank.specs.declared.Bank.{Bank}
-use Rattle.bank.specs.Bank.{tickRouted, onTicks}
+use Rattle.bank.specs.Bank.{tick_routed, on_ticks}
 
 both_ways : {X : Type 0} (t : Bool) (x y z : X) → x ≡ z → y ≡ z → cond t x y ≡ z
 both_ways true x y z p q = p
@@ -37,30 +37,30 @@ module _ (v : ℕ) (e : Encoder) (at : e.pins ≡ v) (seen : e.seen ≡ true) wh
       none : (p : ℕ) → (4 + p - p) % 4 ≡ 0
       none p = let h : 4 + p - p ≡ 4 = omega arith in ap (λ (n : ℕ). n % 4) h
 
-  pins-again : onPins v e ≡ e
-  pins-again = both_ways (not (en e.cnfg)) e _ e refl
+  pins_again : on_pins v e ≡ e
+  pins_again = both_ways (not (en e.cnfg)) e _ e refl
       (both_ways (not e.seen || rst e.cnfg) (kept v e) _ e kept_again (both_ways (mode e.cnfg) (clocked v e) (quadrature (places e.pins v) v e) e no_edge no_step))
 
-pub pins-twice : (v : ℕ) (e : Encoder) → onPins v (onPins v e) ≡ onPins v e
-pins-twice v e = by (en e.cnfg) refl
+pub pins_twice : (v : ℕ) (e : Encoder) → on_pins v (on_pins v e) ≡ on_pins v e
+pins_twice v e = by (en e.cnfg) refl
   where
-    by : (t : Bool) → en e.cnfg ≡ t → onPins v (onPins v e) ≡ onPins v e
-    by true h = let p = pins-stored v e h in pins-again v (onPins v e) p.0 p.1
-    by false h = ap (onPins v) (ap (λ (t : Bool). cond (not t) e (cond (not e.seen || rst e.cnfg) (kept v e) (cond (mode e.cnfg) (clocked v e) (quadrature (places e.pins v) v e)))) h)
+    by : (t : Bool) → en e.cnfg ≡ t → on_pins v (on_pins v e) ≡ on_pins v e
+    by true h = let p = pins_stored v e h in pins_again v (on_pins v e) p.0 p.1
+    by false h = ap (on_pins v) (ap (λ (t : Bool). cond (not t) e (cond (not e.seen || rst e.cnfg) (kept v e) (cond (mode e.cnfg) (clocked v e) (quadrature (places e.pins v) v e)))) h)
 
 -- ---- no ticks
 
-no-ticks : (f : ℕ → Pwm → Pwm) → ((k : ℕ) (p : Pwm) → f k p ≡ p) → (k : ℕ) (l : List Pwm) → mapFrom f k l ≡ l
-unfolding mapFrom
-no-ticks f h k [] = refl
-no-ticks f h k (p ∷ l) = ap (λ (q : Pwm). q ∷ mapFrom f (suc k) l) (h k p) ∙ ap (λ (q : List Pwm). p ∷ q) (no-ticks f h (suc k) l)
+no_ticks : (f : ℕ → Pwm → Pwm) → ((k : ℕ) (p : Pwm) → f k p ≡ p) → (k : ℕ) (l : List Pwm) → map_from f k l ≡ l
+unfolding map_from
+no_ticks f h k [] = refl
+no_ticks f h k (p ∷ l) = ap (λ (q : Pwm). q ∷ map_from f (suc k) l) (h k p) ∙ ap (λ (q : List Pwm). p ∷ q) (no_ticks f h (suc k) l)
 
-pub not-ticked : (o : Edition) (b : Bank) → onTicks o 0 b ≡ b
+pub not_ticked : (o : Edition) (b : Bank) → on_ticks o 0 b ≡ b
 unfolding pwm.waited
-not-ticked o b =
+not_ticked o b =
     ap {B = Bank} (λ (ps : List Pwm). record { select = b.select; encoders = b.encoders; pwms = ps; i2c = b.i2c })
-    (no-ticks (tickRouted o b.select 0) (λ k p. both_ways (pwmRouted o.port b.select k) p p p refl refl) 0 b.pwms)
+    (no_ticks (tick_routed o b.select 0) (λ k p. both_ways (pwm_routed o.port b.select k) p p p refl refl) 0 b.pwms)
 
-pub map-itself : (f : Bank → Bank) → ((b : Bank) → f b ≡ b) → (l : List Bank) → map f l ≡ l
-map-itself f h [] = refl
-map-itself f h (b ∷ l) = ap (λ (c : Bank). c ∷ map f l) (h b) ∙ ap (λ (m : List Bank). b ∷ m) (map-itself f h l)
+pub map_itself : (f : Bank → Bank) → ((b : Bank) → f b ≡ b) → (l : List Bank) → map f l ≡ l
+map_itself f h [] = refl
+map_itself f h (b ∷ l) = ap (λ (c : Bank). c ∷ map f l) (h b) ∙ ap (λ (m : List Bank). b ∷ m) (map_itself f h l)

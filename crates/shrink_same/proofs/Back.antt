@@ -53,6 +53,6 @@ module _ (k i v : ℕ) where
   all [] p earlier n e q = rw (n, eq-eqb (le_of 8 p 8) v e)
   all (x ∷ xs) p earlier n e q = rw (q.0, q.1) (all xs p earlier n e q.2)
 
-pub looking-back : (k i v : ℕ) (before : List (List ℕ)) → (shows k i v before ≡ true) ↔ Previous k i v before
-looking-back k i v before =
+pub looking_back : (k i v : ℕ) (before : List (List ℕ)) → (shows k i v before ≡ true) ↔ Previous k i v before
+looking_back k i v before =
     (only k i v before, λ x. ap (shows k i v) x.cut ∙ all k i v x.between x.previous x.earlier x.pins x.says x.quiet)

@@ -13,123 +13,123 @@ use Rattle.fold.specs.Shrink as fold
 use Rattle.fold.proofs.Laws as laws
 use Rattle.fold.proofs.Runs.{halts}
 use Rattle.edition.specs.declared.Edition.{Edition}
-use Rattle.wire.specs.Decode.{readsIn}
-use Rattle.trailer.specs.Trailer.{trailerOf, recordsAt, recordsOf, editionAt, editionIn}
+use Rattle.wire.specs.Decode.{reads_in}
+use Rattle.trailer.specs.Trailer.{trailer_of, records_at, records_of, edition_at, edition_in}
 use Rattle.trailer.specs.declared.Trailer.{Trailer}
 use Rattle.trailer.specs.declared.Trailer.TheVariants.{Found, Refused}
 use Rattle.trailer.proofs.Laws.{ends}
 use Rattle.banks.specs.declared.State.{State}
 use Rattle.banks.specs.State.{fresh}
-use Rattle.edition.specs.Edition.{editionOf}
-use Rattle.replay.specs.Replay.{played, playOf, replayFrom, replayOf}
+use Rattle.edition.specs.Edition.{edition_of}
+use Rattle.replay.specs.Replay.{played, play_of, replay_from, replay_of}
 use Rattle.walk.specs.Turn.{turn_of}
 use Rattle.replay.proofs.Numbers.{accepted}
 use Rattle.replay.proofs.Proved as replay
 use Rattle.travel.specs.Stretch.{Stretch}
-use Rattle.writer.specs.Writer.{logOf}
-use Rattle.shrink.specs.Shrink.{smallerAt, smallerOf}
+use Rattle.writer.specs.Writer.{log_of}
+use Rattle.shrink.specs.Shrink.{smaller_at, smaller_of}
 use Rattle.shrink_rule.specs.Drops.{drops, kept}
 use Rattle.shrink_rule.specs.How.{rule, none}
 use Rattle.shrink_rule.proofs.Every.{Sixteen}
-use Rattle.shrink.proofs.Whole.{notes-count, sixteen, shorter, log-ready, log-kept, log-smaller}
+use Rattle.shrink.proofs.Whole.{notes_count, sixteen, shorter, log_ready, log_kept, log_smaller}
 use Rattle.shrink_same.specs.Same.{Same, Kept, Stretches}
-use Rattle.shrink_same.proofs.Runs.{same-run, kept-twice, fewer_reads, kept-cut, kept-first, calm-kept, steps-kept, doubles-kept, steps-again, doubles-again}
+use Rattle.shrink_same.proofs.Runs.{same_run, kept_twice, fewer_reads, kept_cut, kept_first, calm_kept, steps_kept, doubles_kept, steps_again, doubles_again}
 use Rattle.shrink_same.proofs.Longer.{longer}
 use Rattle.shaft.specs.Shaft.{steps, doubles}
-use Rattle.shrink_same.proofs.Bytes.{is_known, new-trailer, new-records, new-notes}
+use Rattle.shrink_same.proofs.Bytes.{is_known, new_trailer, new_records, new_notes}
 
 -- ---- a log that replays, and its trailer
 
-module _ (log : List ℕ) (room : ℕ) (goes : (replayOf log room).course ≡ going) (a n e : ℕ) (f : trailerOf log ≡ Found a n e) where
+module _ (log : List ℕ) (room : ℕ) (goes : (replay_of log room).course ≡ going) (a n e : ℕ) (f : trailer_of log ≡ Found a n e) where
   abbrev rs : List (List ℕ)
-  rs = recordsOf log
+  rs = records_of log
 
   abbrev o : Edition
-  o = editionIn log
+  o = edition_in log
 
-  run : replayOf log room ≡ played o rs
+  run : replay_of log room ≡ played o rs
   run = accepted log room goes
 
   plays : (played o rs).course ≡ going
   plays = sym (ap (λ (x : Run State ℕ). x.course) run) ∙ goes
 
   here : rs ≡ records 16 n (drop a log)
-  here = ap (λ (t : Trailer). recordsAt t log) f
+  here = ap (λ (t : Trailer). records_at t log) f
 
-  has_room : 8 * readsIn rs ≤ room
-  unfolding replayOf replayFrom playOf
-  has_room = rw here (by (leb (8 * readsIn (records 16 n (drop a log))) room) refl)
+  has_room : 8 * reads_in rs ≤ room
+  unfolding replay_of replay_from play_of
+  has_room = rw here (by (leb (8 * reads_in (records 16 n (drop a log))) room) refl)
     where
-      by : (t : Bool) → leb (8 * readsIn (records 16 n (drop a log))) room ≡ t → 8 * readsIn (records 16 n (drop a log)) ≤ room
-      by true h = leb-true (8 * readsIn (records 16 n (drop a log))) room h
+      by : (t : Bool) → leb (8 * reads_in (records 16 n (drop a log))) room ≡ t → 8 * reads_in (records 16 n (drop a log)) ≤ room
+      by true h = leb-true (8 * reads_in (records 16 n (drop a log))) room h
       by false h =
-          let there = ap (λ (t : Trailer). (replayFrom t log room).course) f in
-          let six = ap (λ (t : Bool). (cond t (played (editionOf e) (records 16 n (drop a log))) (halted fresh 0 [] 6)).course) h in
+          let there = ap (λ (t : Trailer). (replay_from t log room).course) f in
+          let six = ap (λ (t : Bool). (cond t (played (edition_of e) (records 16 n (drop a log))) (halted fresh 0 [] 6)).course) h in
           absurd (halts 6 (sym (there ∙ six) ∙ goes))
 
-  is-log : smallerOf log ≡ logOf (take a log) (flatten (kept [] rs)) e
-  is-log = ap (λ (t : Trailer). smallerAt t log) f ∙ ap (λ (l : List (List ℕ)). logOf (take a log) (flatten (kept [] l)) e) (sym here)
+  is_log : smaller_of log ≡ log_of (take a log) (flatten (kept [] rs)) e
+  is_log = ap (λ (t : Trailer). smaller_at t log) f ∙ ap (λ (l : List (List ℕ)). log_of (take a log) (flatten (kept [] l)) e) (sym here)
 
   whole : Sixteen (kept [] rs)
   whole =
-      subst Sixteen (sym (log-kept log room goes ∙ ap (fold.kept rule none) here)) (sixteen log a n (log-ready log room goes a n e f))
+      subst Sixteen (sym (log_kept log room goes ∙ ap (fold.kept rule none) here)) (sixteen log a n (log_ready log room goes a n e f))
 
-  less : length (smallerOf log) ≤ length log
-  less = rw (log-smaller log room goes a n e f) (shorter log a n (log-ready log room goes a n e f) e log)
+  less : length (smaller_of log) ≤ length log
+  less = rw (log_smaller log room goes a n e f) (shorter log a n (log_ready log room goes a n e f) e log)
 
-  short : length (logOf (take a log) (flatten (kept [] rs)) e) ≤ 32768
-  short = omega (arith, less, ends log a n e f, ap length is-log)
+  short : length (log_of (take a log) (flatten (kept [] rs)) e) ≤ 32768
+  short = omega (arith, less, ends log a n e f, ap length is_log)
 
   notes : length (take a log) ≡ a
-  notes = sym (notes-count log a n (log-ready log room goes a n e f))
+  notes = sym (notes_count log a n (log_ready log room goes a n e f))
 
-  its-trailer : trailerOf (smallerOf log) ≡ Found a (length (kept [] rs)) e
-  its-trailer = ap trailerOf is-log ∙ new-trailer (take a log) (kept [] rs) e whole (is_known log a n e f) short ∙ ap (λ (b : ℕ). Found b (length (kept [] rs)) e) notes
+  its_trailer : trailer_of (smaller_of log) ≡ Found a (length (kept [] rs)) e
+  its_trailer = ap trailer_of is_log ∙ new_trailer (take a log) (kept [] rs) e whole (is_known log a n e f) short ∙ ap (λ (b : ℕ). Found b (length (kept [] rs)) e) notes
 
-  its-notes : take a (smallerOf log) ≡ take a log
-  its-notes =
-      ap (take a) is-log ∙ ap (λ (b : ℕ). take b (logOf (take a log) (flatten (kept [] rs)) e)) (sym notes)
-      ∙ new-notes (take a log) (kept [] rs) e whole (is_known log a n e f) short
+  its_notes : take a (smaller_of log) ≡ take a log
+  its_notes =
+      ap (take a) is_log ∙ ap (λ (b : ℕ). take b (log_of (take a log) (flatten (kept [] rs)) e)) (sym notes)
+      ∙ new_notes (take a log) (kept [] rs) e whole (is_known log a n e f) short
 
-  its-records : recordsOf (smallerOf log) ≡ kept [] rs
-  its-records = ap recordsOf is-log ∙ new-records (take a log) (kept [] rs) e whole (is_known log a n e f) short
+  its_records : records_of (smaller_of log) ≡ kept [] rs
+  its_records = ap records_of is_log ∙ new_records (take a log) (kept [] rs) e whole (is_known log a n e f) short
 
-  its-edition : editionIn (smallerOf log) ≡ o
-  its-edition = ap editionAt its-trailer ∙ sym (ap editionAt f)
+  its_edition : edition_in (smaller_of log) ≡ o
+  its_edition = ap edition_at its_trailer ∙ sym (ap edition_at f)
 
-  its-replay : replayOf (smallerOf log) room ≡ under (replayOf log room).state (length (kept [] rs)) (replayOf log room).readings
-  its-replay =
-      replay.replayed (smallerOf log) a (length (kept [] rs)) e room its-trailer (omega (arith, has_room, fewer_reads o rs plays, ap readsIn its-records))
-      ∙ ap (λ (x : Edition). played x (recordsOf (smallerOf log))) its-edition
-      ∙ ap (played o) its-records
-      ∙ same-run o rs plays
+  its_replay : replay_of (smaller_of log) room ≡ under (replay_of log room).state (length (kept [] rs)) (replay_of log room).readings
+  its_replay =
+      replay.replayed (smaller_of log) a (length (kept [] rs)) e room its_trailer (omega (arith, has_room, fewer_reads o rs plays, ap reads_in its_records))
+      ∙ ap (λ (x : Edition). played x (records_of (smaller_of log))) its_edition
+      ∙ ap (played o) its_records
+      ∙ same_run o rs plays
       ∙ ap (λ (x : Run State ℕ). under x.state (length (kept [] rs)) x.readings) (sym run)
 
-  same-again : smallerOf (smallerOf log) ≡ smallerOf log
-  same-again =
-      ap (λ (t : Trailer). smallerAt t (smallerOf log)) its-trailer
-      ∙ ap (λ (l : List (List ℕ)). logOf (take a (smallerOf log)) (flatten (kept [] l)) e) (sym (ap (λ (t : Trailer). recordsAt t (smallerOf log)) its-trailer) ∙ its-records)
-      ∙ ap (λ (l : List (List ℕ)). logOf (take a (smallerOf log)) (flatten l) e) (kept-twice o rs plays)
-      ∙ ap (λ (l : List ℕ). logOf l (flatten (kept [] rs)) e) its-notes
-      ∙ sym is-log
+  same_again : smaller_of (smaller_of log) ≡ smaller_of log
+  same_again =
+      ap (λ (t : Trailer). smaller_at t (smaller_of log)) its_trailer
+      ∙ ap (λ (l : List (List ℕ)). log_of (take a (smaller_of log)) (flatten (kept [] l)) e) (sym (ap (λ (t : Trailer). records_at t (smaller_of log)) its_trailer) ∙ its_records)
+      ∙ ap (λ (l : List (List ℕ)). log_of (take a (smaller_of log)) (flatten l) e) (kept_twice o rs plays)
+      ∙ ap (λ (l : List ℕ). log_of l (flatten (kept [] rs)) e) its_notes
+      ∙ sym is_log
 
 -- a log that replays has a trailer
-found-one : (log : List ℕ) (room : ℕ) → (replayOf log room).course ≡ going → (P : Type 0) → ((a n e : ℕ) → trailerOf log ≡ Found a n e → P) → P
-unfolding replayOf replayFrom
-found-one log room goes P h = by (trailerOf log) refl
+found_one : (log : List ℕ) (room : ℕ) → (replay_of log room).course ≡ going → (P : Type 0) → ((a n e : ℕ) → trailer_of log ≡ Found a n e → P) → P
+unfolding replay_of replay_from
+found_one log room goes P h = by (trailer_of log) refl
   where
-    by : (t : Trailer) → trailerOf log ≡ t → P
+    by : (t : Trailer) → trailer_of log ≡ t → P
     by (Found a n e) f = h a n e f
-    by (Refused k) f = absurd (halts k (sym (ap (λ (t : Trailer). (replayFrom t log room).course) f) ∙ goes))
+    by (Refused k) f = absurd (halts k (sym (ap (λ (t : Trailer). (replay_from t log room).course) f) ∙ goes))
 
-pub all_same : (log : List ℕ) (room : ℕ) (goes : (replayOf log room).course ≡ going) → Same log room goes
+pub all_same : (log : List ℕ) (room : ℕ) (goes : (replay_of log room).course ≡ going) → Same log room goes
 all_same log room goes =
-    found-one log room goes (Same log room goes) λ a n e f.
+    found_one log room goes (Same log room goes) λ a n e f.
     record {
-      trailer = λ b m u g. (its-trailer log room goes b m u g, its-notes log room goes b m u g);
-      records = its-records log room goes a n e f;
-      replay = its-replay log room goes a n e f;
-      again = same-again log room goes a n e f;
+      trailer = λ b m u g. (its_trailer log room goes b m u g, its_notes log room goes b m u g);
+      records = its_records log room goes a n e f;
+      replay = its_replay log room goes a n e f;
+      again = same_again log room goes a n e f;
       shorter = less log room goes a n e f;
     }
 
@@ -140,47 +140,47 @@ module _ (o : Edition) (k i : ℕ) (r : List ℕ) (before rs : List (List ℕ)) 
   stays = kept (r ∷ reverse before) rs
 
   cut : kept [] (before ++ r ∷ rs) ≡ kept [] before ++ r ∷ stays
-  cut = kept-cut [] before (r ∷ rs) ∙ ap (λ (l : List (List ℕ)). kept [] before ++ l) (kept-first (reverse before) r rs d)
+  cut = kept_cut [] before (r ∷ rs) ∙ ap (λ (l : List (List ℕ)). kept [] before ++ l) (kept_first (reverse before) r rs d)
 
   first : (played o (kept [] before)).state ≡ (played o before).state
-  first = ap (λ (x : Run State ℕ). x.state) (same-run o before (laws.first_goes (turn_of o) fresh before (r ∷ rs) st.applied))
+  first = ap (λ (x : Run State ℕ). x.state) (same_run o before (laws.first_goes (turn_of o) fresh before (r ∷ rs) st.applied))
 
-  still-stretch : Stretch o k i (kept [] before) r stays
-  still-stretch = record {
-    applied = ap (λ (l : List (List ℕ)). (played o l).course) (sym cut) ∙ ap (λ (x : Run State ℕ). x.course) (same-run o (before ++ r ∷ rs) st.applied);
+  still_stretch : Stretch o k i (kept [] before) r stays
+  still_stretch = record {
+    applied = ap (λ (l : List (List ℕ)). (played o l).course) (sym cut) ∙ ap (λ (x : Run State ℕ). x.course) (same_run o (before ++ r ∷ rs) st.applied);
     begins = st.begins;
     counts = rw first st.counts;
-    calm = calm-kept o.port k i (r ∷ reverse before) rs st.calm;
+    calm = calm_kept o.port k i (r ∷ reverse before) rs st.calm;
   }
 
 -- where the first record stays
-kept-stretch : (k i : ℕ) (log r : List ℕ) (before rs later : List (List ℕ)) (room : ℕ) → (replayOf log room).course ≡ going
-    → recordsOf log ≡ before ++ r ∷ rs ++ later → Stretch (editionIn log) k i before r rs → drops (reverse before) r ≡ false → Kept k i log r rs
-kept-stretch k i log r before rs later room goes is st d =
-    found-one log room goes (Kept k i log r rs) λ a n e f.
+kept_stretch : (k i : ℕ) (log r : List ℕ) (before rs later : List (List ℕ)) (room : ℕ) → (replay_of log room).course ≡ going
+    → records_of log ≡ before ++ r ∷ rs ++ later → Stretch (edition_in log) k i before r rs → drops (reverse before) r ≡ false → Kept k i log r rs
+kept_stretch k i log r before rs later room goes is st d =
+    found_one log room goes (Kept k i log r rs) λ a n e f.
     record {
       before = kept [] before;
       first = r;
       stay = kept (r ∷ reverse before) rs;
       later = kept (reverse (before ++ r ∷ rs)) later;
       cut =
-          its-records log room goes a n e f ∙ ap (kept []) is ∙ kept-cut [] (before ++ r ∷ rs) later
-          ∙ ap (λ (l : List (List ℕ)). l ++ kept (reverse (before ++ r ∷ rs)) later) (cut (editionIn log) k i r before rs st d);
-      stretch = subst (λ (o : Edition). Stretch o k i (kept [] before) r (kept (r ∷ reverse before) rs)) (sym (its-edition log room goes a n e f)) (still-stretch (editionIn log) k i r before rs st d);
-      same-steps = steps-kept k i r (reverse before) rs st.begins;
-      same-doubles = doubles-kept k i r (reverse before) rs st.begins;
+          its_records log room goes a n e f ∙ ap (kept []) is ∙ kept_cut [] (before ++ r ∷ rs) later
+          ∙ ap (λ (l : List (List ℕ)). l ++ kept (reverse (before ++ r ∷ rs)) later) (cut (edition_in log) k i r before rs st d);
+      stretch = subst (λ (o : Edition). Stretch o k i (kept [] before) r (kept (r ∷ reverse before) rs)) (sym (its_edition log room goes a n e f)) (still_stretch (edition_in log) k i r before rs st d);
+      same_steps = steps_kept k i r (reverse before) rs st.begins;
+      same_doubles = doubles_kept k i r (reverse before) rs st.begins;
     }
 
 pub stretches : Stretches
 stretches k i log r before rs later room goes is st = by (drops (reverse before) r) refl
   where
     by : (t : Bool) → drops (reverse before) r ≡ t → Kept k i log r rs
-    by false d = kept-stretch k i log r before rs later room goes is st d
+    by false d = kept_stretch k i log r before rs later room goes is st d
     by true d =
-        let x = longer (editionIn log) k i before r rs st d in
-        let there : recordsOf log ≡ x.earlier ++ x.p ∷ (x.qs ++ r ∷ rs) ++ later =
+        let x = longer (edition_in log) k i before r rs st d in
+        let there : records_of log ≡ x.earlier ++ x.p ∷ (x.qs ++ r ∷ rs) ++ later =
         is ∙ ap (λ (l : List (List ℕ)). l ++ r ∷ rs ++ later) x.cut ∙ ap (λ (l : List (List ℕ)). l ++ later) (append_assoc x.earlier (x.p ∷ x.qs) (r ∷ rs)) in
-        let y = kept-stretch k i log x.p x.earlier (x.qs ++ r ∷ rs) later room goes there x.stretch x.stays in
+        let y = kept_stretch k i log x.p x.earlier (x.qs ++ r ∷ rs) later room goes there x.stretch x.stays in
         record {
           before = y.before;
           first = y.first;
@@ -188,6 +188,6 @@ stretches k i log r before rs later room goes is st = by (drops (reverse before)
           later = y.later;
           cut = y.cut;
           stretch = y.stretch;
-          same-steps = y.same-steps ∙ x.same-told steps steps-again;
-          same-doubles = y.same-doubles ∙ x.same-told doubles doubles-again;
+          same_steps = y.same_steps ∙ x.same_told steps steps_again;
+          same_doubles = y.same_doubles ∙ x.same_told doubles doubles_again;
         }

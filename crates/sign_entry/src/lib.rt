@@ -3,9 +3,9 @@ ghost use Rattle.std.specs.Prelude.{◌≡◌, ◌+◌, ◌*◌, ◌<◌, ◌≤
 ghost use Rattle.std.proofs.Math.IntN.{sub_ℕ};
 ghost use Rattle.std.proofs.lemmas.List.Edits.{sets};
 ghost use Rattle.encoder.specs.Encoder.{places};
-ghost use Rattle.sign_line.specs.How.{begunLine};
-ghost use Rattle.sign_entry.specs.Entry.{complement, verdictOf, verdictNumber};
-ghost use Rattle.sign_entry.specs.How.{beginBytes, pair_of, countedAt, Fitting, settledBy, settledAt, settledTo};
+ghost use Rattle.sign_line.specs.How.{begun_line};
+ghost use Rattle.sign_entry.specs.Entry.{complement, verdict_of, verdict_number};
+ghost use Rattle.sign_entry.specs.How.{begin_bytes, pair_of, counted_at, Fitting, settled_by, settled_at, settled_to};
 
 use sign_line::Line;
 use std::num::wrapping_sub_u64;
@@ -23,8 +23,8 @@ fn put_pair(out: &mut [u8], at: usize, a: u64, b: u64)
 // The entry and the line of a first pins record.
 pub fn begin(out: &mut [u8], place: usize, e: usize, index: usize, v: u8) -> Line
     requires { Fitting e index place (length out.old) }
-    ensures value { result ≡ begunLine place v }
-    ensures out_after { out.new ≡ sets out.old (32 * place) (beginBytes e index) }
+    ensures value { result ≡ begun_line place v }
+    ensures out_after { out.new ≡ sets out.old (32 * place) (begin_bytes e index) }
 {
     let at = 32 * place;
     let named = e / 10 + 256 * (e % 10);
@@ -42,7 +42,7 @@ pub fn begin(out: &mut [u8], place: usize, e: usize, index: usize, v: u8) -> Lin
 // One pins record more of the stretch that a line tells of: it is the last so far, and is counted by its places from the one before.
 pub fn go_on(out: &mut [u8], l: Line, last: usize, v: u8)
     requires { 32 * l.place + 32 ≤ length out.old }
-    ensures { out.new ≡ countedAt (32 * l.place) last (places l.pins v) out.old }
+    ensures { out.new ≡ counted_at (32 * l.place) last (places l.pins v) out.old }
 {
     let at = 32 * l.place;
     let tally = at + 16 + 4 * sign_line::wide(encoder_pins::places(l.pins, v));
@@ -56,7 +56,7 @@ pub fn go_on(out: &mut [u8], l: Line, last: usize, v: u8)
 // Steps that exceed 2d in size settle a direction.
 fn verdict(ahead: u64, back: u64, doubles: u64) -> u8
     requires { (ahead < 4294967296) × (back < 4294967296) × (doubles < 4294967296) }
-    ensures { result ≡ verdictNumber (verdictOf (sub_ℕ ahead back) doubles) }
+    ensures { result ≡ verdict_number (verdict_of (sub_ℕ ahead back) doubles) }
 {
     if back + 2 * doubles < ahead {
         return 1;
@@ -79,7 +79,7 @@ fn difference(ahead: u64, back: u64) -> u64
 fn put_sums(out: &mut [u8], at: usize, same: u64, ahead: u64, doubles: u64, back: u64)
     requires at_in_bounds { at + 32 ≤ length out.old }
     requires same_bound { (same < 4294967296) × (ahead < 4294967296) × (doubles < 4294967296) × (back < 4294967296) }
-    ensures { out.new ≡ settledBy at same ahead doubles back out.old }
+    ensures { out.new ≡ settled_by at same ahead doubles back out.old }
 {
     numbers::put32(out, at + 12, 1 + same + ahead + doubles + back);
     put_pair(out, at + 16, difference(ahead, back), doubles);
@@ -88,7 +88,7 @@ fn put_sums(out: &mut [u8], at: usize, same: u64, ahead: u64, doubles: u64, back
 
 fn settle_one(out: &mut [u8], at: usize)
     requires { at + 32 ≤ length out.old }
-    ensures { out.new ≡ settledAt at out.old }
+    ensures { out.new ≡ settled_at at out.old }
 {
     let same = numbers::le32(out, at + 16);
     let ahead = numbers::le32(out, at + 20);
@@ -99,7 +99,7 @@ fn settle_one(out: &mut [u8], at: usize)
 
 pub fn settle(out: &mut [u8], count: usize)
     requires { 32 * count ≤ length out.old }
-    ensures { out.new ≡ settledTo count out.old }
+    ensures { out.new ≡ settled_to count out.old }
 {
     let mut j: usize = 0;
     while j < count {

@@ -1,9 +1,9 @@
 // What a record says to encoders, and what is kept of one encoder while its stretches are found.
 ghost use Rattle.std.specs.Prelude.{◌≡◌, true, ◌+◌, ◌<◌, ◌≤◌, length, take, drop};
-ghost use Rattle.laws.specs.Each.{mapFrom};
-ghost use Rattle.encoder.specs.Encoder.{countsInQuadrature};
+ghost use Rattle.laws.specs.Each.{map_from};
+ghost use Rattle.encoder.specs.Encoder.{counts_in_quadrature};
 ghost use Rattle.numbers.specs.Bytes.{byte, le_of};
-ghost use Rattle.sign_line.specs.How.{said_of, says_of, encoderNamed, noLine, configuredLine, routedLine, reroutedLine};
+ghost use Rattle.sign_line.specs.How.{said_of, says_of, encoder_named, no_line, configured_line, routed_line, rerouted_line};
 
 // One encoder: whether its CNFG says EN 1, RST 0 and MODE 0; whether a stretch of it runs, with which last pins, and the place of its entry
 // among all. The stretch's sums stand where its entry will.
@@ -52,7 +52,7 @@ pub fn says(log: &[u8], at: usize) -> u8
 // The number of the encoder that it names.
 pub fn encoder_named(log: &[u8], at: usize) -> usize
     requires { at + 16 ≤ length log.now }
-    ensures { result ≡ encoderNamed (take 16 (drop at log.now)) }
+    ensures { result ≡ encoder_named (take 16 (drop at log.now)) }
 {
     10 * wide(log[at + 4]) + wide(log[at + 2])
 }
@@ -75,7 +75,7 @@ pub fn pins(log: &[u8], at: usize) -> u8
 // ---- a line
 
 pub fn no_line() -> Line
-    ensures { result ≡ noLine }
+    ensures { result ≡ no_line }
 {
     Line {
         counts: false,
@@ -86,13 +86,13 @@ pub fn no_line() -> Line
 }
 
 fn counts(cnfg: u64) -> bool
-    ensures { result ≡ countsInQuadrature true cnfg }
+    ensures { result ≡ counts_in_quadrature true cnfg }
 {
     (cnfg % 2 == 1) & (!(cnfg / 2 % 2 == 1) & !(cnfg / 4 % 2 == 1))
 }
 
 pub fn configured(l: Line, cnfg: u64) -> Line
-    ensures { result ≡ configuredLine cnfg l }
+    ensures { result ≡ configured_line cnfg l }
 {
     let c = counts(cnfg);
     Line {
@@ -104,7 +104,7 @@ pub fn configured(l: Line, cnfg: u64) -> Line
 }
 
 fn routed(l: Line, still: bool) -> Line
-    ensures { result ≡ routedLine still l }
+    ensures { result ≡ routed_line still l }
 {
     Line {
         counts: l.counts,
@@ -116,7 +116,7 @@ fn routed(l: Line, still: bool) -> Line
 
 // A write to a bank's SELECT ends the stretches of the encoders that it does not route.
 pub fn rerouted(lines: [Line; 20], bank: usize, port: bool, select: u64) -> [Line; 20]
-    ensures { result ≡ mapFrom (reroutedLine port bank select) 0 lines }
+    ensures { result ≡ map_from (rerouted_line port bank select) 0 lines }
 {
     let mut x = lines;
     for e in 0..20 {

@@ -4,43 +4,43 @@ use mathlib.Core.List.{flatten}
 use Rattle.decimal.specs.Ascii.{ascii}
 use Rattle.io.specs.Counts.{IsPrefixLen}
 use Rattle.decimal.specs.Put.{Put}
-use Rattle.decimal.proofs.Puts.{put-nothing, put_then, put-long}
-use Rattle.fold.specs.Output.{number_of, stopOf}
+use Rattle.decimal.proofs.Puts.{put_nothing, put_then, put_long}
+use Rattle.fold.specs.Output.{number_of, stop_of}
 use Rattle.fold.specs.declared.Stop.{Stop}
-use Rattle.replay.specs.Replay.{replayOf}
-use Rattle.form.specs.Form.{formText}
-use Rattle.trailer.specs.Trailer.{recordsOf}
-use Rattle.trailer.proofs.Laws.{few-records}
-use Rattle.sign.specs.Sign.{stretchesOf, pinsRecords, sign_of, signed_of, signOutput}
+use Rattle.replay.specs.Replay.{replay_of}
+use Rattle.form.specs.Form.{form_text}
+use Rattle.trailer.specs.Trailer.{records_of}
+use Rattle.trailer.proofs.Laws.{few_records}
+use Rattle.sign.specs.Sign.{stretches_of, pins_records, sign_of, signed_of, sign_output}
 use Rattle.sign.specs.declared.Signed.{Signed}
-use Rattle.sign.proofs.Fine.{log-fine}
-use Rattle.sign.proofs.Listing.{pins-few}
+use Rattle.sign.proofs.Fine.{log_fine}
+use Rattle.sign.proofs.Listing.{pins_few}
 use Rattle.sign.proofs.Telling.{count_small}
-use Rattle.sign_print.specs.Said.{stretchText, stretchesText, endText, signText}
-use Rattle.sign_print.specs.How.{speltAt, There, Entries}
-use Rattle.sign_print.proofs.Words.{stop-line}
-use Rattle.sign_print.proofs.Spelt.{entry-there, one_more}
-use Rattle.sign_print.proofs.Room.{lines_long, stop-long}
+use Rattle.sign_print.specs.Said.{stretch_text, stretches_text, end_text, sign_text}
+use Rattle.sign_print.specs.How.{spelt_at, There, Entries}
+use Rattle.sign_print.proofs.Words.{stop_line}
+use Rattle.sign_print.proofs.Spelt.{entry_there, one_more}
+use Rattle.sign_print.proofs.Room.{lines_long, stop_long}
 
 -- what stands in the text after the first i entries
 pub record Saying (log entries text₀ : List ℕ) (n : ℕ) (text : List ℕ) (end i : ℕ) : Type 0 where
   pub within : i ≤ n
   pub there : Entries log entries n
-  pub said : Put text₀ 0 (flatten (map stretchText (take i (stretchesOf log)))) text end
+  pub said : Put text₀ 0 (flatten (map stretch_text (take i (stretches_of log)))) text end
 
 -- ---- 65,504 bytes have room for every entry
 
-roomy : (log : List ℕ) (room : ℕ) → room ≡ 65_504 → leb (32 * pinsRecords (recordsOf log)) room ≡ true
-roomy log room e = le-leb (32 * pinsRecords (recordsOf log)) room (omega (arith, pins-few (recordsOf log), few-records log))
+roomy : (log : List ℕ) (room : ℕ) → room ≡ 65_504 → leb (32 * pins_records (records_of log)) room ≡ true
+roomy log room e = le-leb (32 * pins_records (records_of log)) room (omega (arith, pins_few (records_of log), few_records log))
 
-few-stretches : (log : List ℕ) → length (stretchesOf log) < 2048
+few_stretches : (log : List ℕ) → length (stretches_of log) < 2048
 unfolding sign_of
-few-stretches log = rw (roomy log 65_504 refl) at (count_small log 65_504)
+few_stretches log = rw (roomy log 65_504 refl) at (count_small log 65_504)
 
 module _ (log out : List ℕ) (room : length out ≡ 65_504) where
-  pub all-entries : (x : Signed) (entries : List ℕ) → x ≡ signed_of (sign_of log (length out)) → entries ≡ signOutput log out → Entries log entries x.count
+  pub all_entries : (x : Signed) (entries : List ℕ) → x ≡ signed_of (sign_of log (length out)) → entries ≡ sign_output log out → Entries log entries x.count
   unfolding sign_of
-  all-entries x entries e f = record {
+  all_entries x entries e f = record {
     few = omega (arith, ap (λ (y : Signed). y.count) e, count_small log (length out));
     all = ap (λ (y : Signed). y.count) e ∙ rw (roomy log (length out) room);
     out = out;
@@ -51,43 +51,43 @@ module _ (log out : List ℕ) (room : length out ≡ 65_504) where
 
 pub begins : (log entries text : List ℕ) (n : ℕ) → Entries log entries n → Saying log entries text n text 0 0
 unfolding flatten
-begins log entries text n x = record { within = omega arith; there = x; said = put-nothing text 0 }
+begins log entries text n x = record { within = omega arith; there = x; said = put_nothing text 0 }
 
 module _ (log entries text₀ : List ℕ) (n : ℕ) (text : List ℕ) (end i : ℕ) (s : Saying log entries text₀ n text end i) where
-  pub same-long : length text ≡ length text₀
-  same-long = put-long text₀ text _ 0 end s.said
+  pub same_long : length text ≡ length text₀
+  same_long = put_long text₀ text _ 0 end s.said
 
   module _ (h : i < n) where
     pub here : There entries (32 * i)
-    here = entry-there (stretchesOf log) (log-fine log) s.there.out entries s.there.listed i (omega (arith, s.there.all))
+    here = entry_there (stretches_of log) (log_fine log) s.there.out entries s.there.listed i (omega (arith, s.there.all))
 
-    pub next : (text' : List ℕ) (end' : ℕ) → Put text end (speltAt entries (32 * i)) text' end' → Saying log entries text₀ n text' end' (i + 1)
+    pub next : (text' : List ℕ) (end' : ℕ) → Put text end (spelt_at entries (32 * i)) text' end' → Saying log entries text₀ n text' end' (i + 1)
     next text' end' x = record {
       within = omega arith;
       there = s.there;
-      said = rw (one_more (stretchesOf log) (log-fine log) s.there.out entries s.there.listed i (omega (arith, s.there.all))) (put_then text₀ text text' _ _ 0 end end' s.said x);
+      said = rw (one_more (stretches_of log) (log_fine log) s.there.out entries s.there.listed i (omega (arith, s.there.all))) (put_then text₀ text text' _ _ 0 end end' s.said x);
     }
 
-  pub all_said : n ≤ i → Put text₀ 0 (stretchesText log) text end
-  unfolding stretchesText
-  all_said h = rw (take_all i (stretchesOf log) (omega (arith, s.there.all))) at s.said
+  pub all_said : n ≤ i → Put text₀ 0 (stretches_text log) text end
+  unfolding stretches_text
+  all_said h = rw (take_all i (stretches_of log) (omega (arith, s.there.all))) at s.said
 
 -- ---- the last line
 
-module _ (log : List ℕ) (stop : Stop) (is : stop ≡ stopOf (replayOf log 16_384)) where
-  pub stop-said : (text text' : List ℕ) (at r : ℕ) → Put text at (formText (ascii "applied " ++ 35 ∷ 32 ∷ ascii "refused " ++ 35 ∷ 10 ∷ []) (stop.applied ∷ stop.refused ∷ [])) text' r → Put text at (endText log) text' r
-  unfolding endText stopOf
-  stop-said text text' at r x = rw is at (rw (stop-line stop.applied stop.refused) at x)
+module _ (log : List ℕ) (stop : Stop) (is : stop ≡ stop_of (replay_of log 16_384)) where
+  pub stop_said : (text text' : List ℕ) (at r : ℕ) → Put text at (form_text (ascii "applied " ++ 35 ∷ 32 ∷ ascii "refused " ++ 35 ∷ 10 ∷ []) (stop.applied ∷ stop.refused ∷ [])) text' r → Put text at (end_text log) text' r
+  unfolding end_text stop_of
+  stop_said text text' at r x = rw is at (rw (stop_line stop.applied stop.refused) at x)
 
-  pub stop-short : stop.applied < 2 ^ 64 → stop.refused < 2 ^ 64 → length (endText log) ≤ 58
-  unfolding endText stopOf
-  stop-short p q = let t = replayOf log 16_384 in stop-long t.applied (number_of t.course) (rw is at p) (rw is at q)
+  pub stop_short : stop.applied < 2 ^ 64 → stop.refused < 2 ^ 64 → length (end_text log) ≤ 58
+  unfolding end_text stop_of
+  stop_short p q = let t = replay_of log 16_384 in stop_long t.applied (number_of t.course) (rw is at p) (rw is at q)
 
-pub text-long : (log : List ℕ) → length (endText log) ≤ 58 → length (signText log) ≤ 298_920
-unfolding stretchesText
-text-long log h = omega (arith, length-append (stretchesText log) (endText log), lines_long (stretchesOf log) (log-fine log), few-stretches log)
+pub text_long : (log : List ℕ) → length (end_text log) ≤ 58 → length (sign_text log) ≤ 298_920
+unfolding stretches_text
+text_long log h = omega (arith, length-append (stretches_text log) (end_text log), lines_long (stretches_of log) (log_fine log), few_stretches log)
 
-pub put-counts : (a b s : List ℕ) (n : ℕ) → Put a 0 s b n → IsPrefixLen n b
-put-counts a b s n x =
-    let h : n ≤ length b = omega (arith, x.place, put-long a b s 0 n x) in
+pub put_counts : (a b s : List ℕ) (n : ℕ) → Put a 0 s b n → IsPrefixLen n b
+put_counts a b s n x =
+    let h : n ≤ length b = omega (arith, x.place, put_long a b s 0 n x) in
     (h, sym (length-take-le n b h))

@@ -4,27 +4,27 @@ use mathlib.Core.List.{flatten}
 use lib.IntN.{sub_ℕ}
 use lib.Seq.{split_at}
 use Rattle.decimal.specs.Ascii.{ascii}
-use Rattle.decimal.specs.Digits.{digitsOf}
-use Rattle.decimal.proofs.Back.{digits-small}
-use Rattle.form.specs.Form.{sign_of, pluralOf, formText}
+use Rattle.decimal.specs.Digits.{digits_of}
+use Rattle.decimal.proofs.Back.{digits_small}
+use Rattle.form.specs.Form.{sign_of, plural_of, form_text}
 use Rattle.fold.specs.Output.{over}
 use Rattle.shaft.specs.Shaft.{forward, backward, still}
 use Rattle.text.specs.Text.{line}
 use Rattle.numbers.specs.Bytes.{le_of, le_bytes}
-use Rattle.sign_entry.specs.Entry.{Entry, entryBytes, listing, complement, Verdict, settled, unsettled, verdictOf, verdictNumber}
+use Rattle.sign_entry.specs.Entry.{Entry, entry_bytes, listing, complement, Verdict, settled, unsettled, verdict_of, verdict_number}
 use Rattle.sign.specs.Facts.{Each}
 use Rattle.sign.proofs.Fine.{Fine}
 use Rattle.sign_entry.proofs.Bytes.{below}
-use Rattle.sign.proofs.Listing.{length-concat, concat-more, entry-long}
+use Rattle.sign.proofs.Listing.{length_concat, concat_more, entry_long}
 use Rattle.sign.proofs.Adding.{eight}
-use Rattle.sign.proofs.Settling.{few-verdicts, each_at}
-use Rattle.sign_print.specs.Said.{plural, counted, signed, placeText, sumsText, travelText, verdictText, stretchText}
-use Rattle.sign_print.specs.How.{whole_of, stretchForm, numbersBy, numberedText, spelt, speltAt, There}
+use Rattle.sign.proofs.Settling.{few_verdicts, each_at}
+use Rattle.sign_print.specs.Said.{plural, counted, signed, place_text, sums_text, travel_text, verdict_text, stretch_text}
+use Rattle.sign_print.specs.How.{whole_of, stretch_form, numbers_by, numbered_text, spelt, spelt_at, There}
 
 -- ---- an entry's four numbers
 
-numbered : (v : Verdict) (size d : ℕ) → numberedText (verdictNumber v) size d ≡ verdictText v size d
-unfolding numberedText
+numbered : (v : Verdict) (size d : ℕ) → numbered_text (verdict_number v) size d ≡ verdict_text v size d
+unfolding numbered_text
 numbered (settled forward) size d = refl
 numbered (settled backward) size d = refl
 numbered (settled still) size d = refl
@@ -76,12 +76,12 @@ module _ (m : ℕ) (few : m < 4096) where
   further (negsuc n) h = difference _ m (suc n) (omega arith) (omega arith) (omega arith) (omega arith)
 
 -- the sign and the size are the number
-signed_is : (n : ℕ) → sign_of n ++ digitsOf (nat_abs (whole_of n)) ≡ signed (whole_of n)
+signed_is : (n : ℕ) → sign_of n ++ digits_of (nat_abs (whole_of n)) ≡ signed (whole_of n)
 unfolding sign_of whole_of signed
-signed_is zero = digits-small 0 (omega arith)
+signed_is zero = digits_small 0 (omega arith)
 signed_is (suc n) = rw (ne_eqb (suc n) 0 (λ e. omega arith)) (by (ltb (suc n) 9223372036854775808))
   where
-    by : (t : Bool) → cond t (43 ∷ []) (45 ∷ []) ++ digitsOf (nat_abs (cond t (pos (suc n)) (negsuc (18446744073709551615 - suc n)))) ≡ signed (cond t (pos (suc n)) (negsuc (18446744073709551615 - suc n)))
+    by : (t : Bool) → cond t (43 ∷ []) (45 ∷ []) ++ digits_of (nat_abs (cond t (pos (suc n)) (negsuc (18446744073709551615 - suc n)))) ≡ signed (cond t (pos (suc n)) (negsuc (18446744073709551615 - suc n)))
     by true = refl
     by false = refl
 
@@ -91,39 +91,39 @@ grouped : (a b c d e f g h i j k l m n o p q r s t u v w x : List ℕ)
     ≡ (a ++ b ++ c ++ d ++ e ++ f ++ g ++ h) ++ (i ++ (j ++ (k ++ l)) ++ (i ++ (m ++ n) ++ (o ++ p)) ++ i ++ (q ++ (r ++ s))) ++ (t ++ (u ++ v) ++ g ++ (w ++ x))
 grouped a b c d e f g h i j k l m n o p q r s t u v w x = simp (append_assoc, append-nil)
 
-form-is : (b i f l n s d least most : ℕ) → formText stretchForm (numbersBy b i f l n s d least most)
-    ≡ placeText b i f l ++ (ascii ", " ++ counted n (ascii " pin") ++ (ascii ", " ++ signed (whole_of s) ++ plural (ascii " step") (nat_abs (whole_of s))) ++ ascii ", " ++ counted d (ascii " double change")) ++ (ascii ", travel " ++ signed (whole_of least) ++ ascii " to " ++ signed (whole_of most))
-unfolding formText placeText
-form-is b i f l n s d least most =
-    let z : ℕ → List ℕ = λ (k : ℕ). digitsOf (nat_abs (whole_of k)) in
-    grouped (ascii "bank ") (digitsOf b) (ascii " encoder ") (digitsOf i) (ascii ": records ") (digitsOf f) (ascii " to ") (digitsOf l) (ascii ", ") (digitsOf n) (ascii " pin") (pluralOf n) (sign_of s) (z s) (ascii " step") (pluralOf (nat_abs (whole_of s))) (digitsOf d) (ascii " double change") (pluralOf d) (ascii ", travel ") (sign_of least) (z least) (sign_of most) (z most)
+form_is : (b i f l n s d least most : ℕ) → form_text stretch_form (numbers_by b i f l n s d least most)
+    ≡ place_text b i f l ++ (ascii ", " ++ counted n (ascii " pin") ++ (ascii ", " ++ signed (whole_of s) ++ plural (ascii " step") (nat_abs (whole_of s))) ++ ascii ", " ++ counted d (ascii " double change")) ++ (ascii ", travel " ++ signed (whole_of least) ++ ascii " to " ++ signed (whole_of most))
+unfolding form_text place_text
+form_is b i f l n s d least most =
+    let z : ℕ → List ℕ = λ (k : ℕ). digits_of (nat_abs (whole_of k)) in
+    grouped (ascii "bank ") (digits_of b) (ascii " encoder ") (digits_of i) (ascii ": records ") (digits_of f) (ascii " to ") (digits_of l) (ascii ", ") (digits_of n) (ascii " pin") (plural_of n) (sign_of s) (z s) (ascii " step") (plural_of (nat_abs (whole_of s))) (digits_of d) (ascii " double change") (plural_of d) (ascii ", travel ") (sign_of least) (z least) (sign_of most) (z most)
     ∙ rw (signed_is s, signed_is least, signed_is most)
 
-spelt-by : (n x b i v f l m d s : ℕ) → n % 256 ≡ b → n / 256 % 256 ≡ i → n / 65536 % 4 ≡ v → n / 4294967296 ≡ f → x % 4294967296 ≡ l → x / 4294967296 ≡ m
-    → spelt n x s d ≡ formText stretchForm (numbersBy b i f l m s d ((s + 18446744073709551616 - 2 * d) % 18446744073709551616) ((s + 2 * d) % 18446744073709551616)) ++ line (numberedText v (nat_abs (whole_of s)) d)
+spelt_by : (n x b i v f l m d s : ℕ) → n % 256 ≡ b → n / 256 % 256 ≡ i → n / 65536 % 4 ≡ v → n / 4294967296 ≡ f → x % 4294967296 ≡ l → x / 4294967296 ≡ m
+    → spelt n x s d ≡ form_text stretch_form (numbers_by b i f l m s d ((s + 18446744073709551616 - 2 * d) % 18446744073709551616) ((s + 2 * d) % 18446744073709551616)) ++ line (numbered_text v (nat_abs (whole_of s)) d)
 unfolding spelt
-spelt-by n x b i v f l m d s eb ei ev ef el em = rw (eb, ei, ev, ef, el, em)
+spelt_by n x b i v f l m d s eb ei ev ef el em = rw (eb, ei, ev, ef, el, em)
 
 module _ (e : Entry) (small : Fine e) where
   abbrev verdict : Verdict
-  verdict = verdictOf e.steps e.doubles
+  verdict = verdict_of e.steps e.doubles
 
   abbrev names : ℕ
-  names = e.bank + 256 * e.encoder + 65536 * verdictNumber verdict + 4294967296 * e.first
+  names = e.bank + 256 * e.encoder + 65536 * verdict_number verdict + 4294967296 * e.first
 
   abbrev span : ℕ
   span = e.last + 4294967296 * e.number
 
-  spelt_is : spelt names span (complement e.steps) e.doubles ≡ stretchText e
-  unfolding stretchText sumsText travelText
+  spelt_is : spelt names span (complement e.steps) e.doubles ≡ stretch_text e
+  unfolding stretch_text sums_text travel_text
   spelt_is =
-      let v = few-verdicts verdict in
+      let v = few_verdicts verdict in
       let z = e.steps in
       let d = e.doubles in
-      spelt-by names span e.bank e.encoder (verdictNumber verdict) e.first e.last e.number d (complement z) (omega arith) (omega arith) (omega arith) (omega arith) (omega arith) (omega arith)
-      ∙ ap (λ (l : List ℕ). l ++ line (numberedText (verdictNumber verdict) (nat_abs (whole_of (complement z))) d)) (form-is e.bank e.encoder e.first e.last e.number (complement z) d _ _)
+      spelt_by names span e.bank e.encoder (verdict_number verdict) e.first e.last e.number d (complement z) (omega arith) (omega arith) (omega arith) (omega arith) (omega arith) (omega arith)
+      ∙ ap (λ (l : List ℕ). l ++ line (numbered_text (verdict_number verdict) (nat_abs (whole_of (complement z))) d)) (form_is e.bank e.encoder e.first e.last e.number (complement z) d _ _)
       ∙ rw (whole z small.steps, less (2 * d) (omega (arith, small.doubles)) z small.steps, further (2 * d) (omega (arith, small.doubles)) z small.steps, numbered verdict (nat_abs z) d)
-      (sym (append_assoc (placeText e.bank e.encoder e.first e.last ++ sumsText e.number z d ++ travelText z d) (verdictText verdict (nat_abs z) d) (10 ∷ [])))
+      (sym (append_assoc (place_text e.bank e.encoder e.first e.last ++ sums_text e.number z d ++ travel_text z d) (verdict_text verdict (nat_abs z) d) (10 ∷ [])))
 
   -- behind other bytes
   module _ (a rest : List ℕ) (at : ℕ) (is : at ≡ length a) where
@@ -137,21 +137,21 @@ module _ (e : Entry) (small : Fine e) where
     unfolding w1 w2
     w3 = w2 ++ le_bytes 8 (complement e.steps)
 
-    last : le_of 8 (a ++ (entryBytes e ++ rest)) (at + 24) ≡ e.doubles
-    unfolding entryBytes w1 w2 w3
+    last : le_of 8 (a ++ (entry_bytes e ++ rest)) (at + 24) ≡ e.doubles
+    unfolding entry_bytes w1 w2 w3
     last = eight a w3 rest at e.doubles is (omega (arith, small.doubles))
 
-    spelt-there : speltAt (a ++ (entryBytes e ++ rest)) at ≡ stretchText e
-    unfolding entryBytes w1 w2 w3
-    spelt-there =
-        let v = few-verdicts verdict in
+    spelt_there : spelt_at (a ++ (entry_bytes e ++ rest)) at ≡ stretch_text e
+    unfolding entry_bytes w1 w2 w3
+    spelt_there =
+        let v = few_verdicts verdict in
         let z : at + 0 ≡ at = add-zero at in
-        let p : le_of 8 (a ++ (entryBytes e ++ rest)) (at + 0) ≡ names = eight a [] _ at names is (omega arith) in
-        let q : le_of 8 (a ++ (entryBytes e ++ rest)) (at + 8) ≡ span = eight a w1 _ at span is (omega arith) in
-        let r : le_of 8 (a ++ (entryBytes e ++ rest)) (at + 16) ≡ complement e.steps = eight a w2 _ at (complement e.steps) is (below e.steps) in
-        ap (λ (n : ℕ). spelt n (le_of 8 (a ++ (entryBytes e ++ rest)) (at + 8)) (le_of 8 (a ++ (entryBytes e ++ rest)) (at + 16)) (le_of 8 (a ++ (entryBytes e ++ rest)) (at + 24))) (sym (ap (le_of 8 (a ++ (entryBytes e ++ rest))) z) ∙ p)
-        ∙ ap (λ (n : ℕ). spelt names n (le_of 8 (a ++ (entryBytes e ++ rest)) (at + 16)) (le_of 8 (a ++ (entryBytes e ++ rest)) (at + 24))) q
-        ∙ ap (λ (n : ℕ). spelt names span n (le_of 8 (a ++ (entryBytes e ++ rest)) (at + 24))) r
+        let p : le_of 8 (a ++ (entry_bytes e ++ rest)) (at + 0) ≡ names = eight a [] _ at names is (omega arith) in
+        let q : le_of 8 (a ++ (entry_bytes e ++ rest)) (at + 8) ≡ span = eight a w1 _ at span is (omega arith) in
+        let r : le_of 8 (a ++ (entry_bytes e ++ rest)) (at + 16) ≡ complement e.steps = eight a w2 _ at (complement e.steps) is (below e.steps) in
+        ap (λ (n : ℕ). spelt n (le_of 8 (a ++ (entry_bytes e ++ rest)) (at + 8)) (le_of 8 (a ++ (entry_bytes e ++ rest)) (at + 16)) (le_of 8 (a ++ (entry_bytes e ++ rest)) (at + 24))) (sym (ap (le_of 8 (a ++ (entry_bytes e ++ rest))) z) ∙ p)
+        ∙ ap (λ (n : ℕ). spelt names n (le_of 8 (a ++ (entry_bytes e ++ rest)) (at + 16)) (le_of 8 (a ++ (entry_bytes e ++ rest)) (at + 24))) q
+        ∙ ap (λ (n : ℕ). spelt names span n (le_of 8 (a ++ (entry_bytes e ++ rest)) (at + 24))) r
         ∙ ap (spelt names span (complement e.steps)) last
         ∙ spelt_is
 
@@ -160,47 +160,47 @@ module _ (e : Entry) (small : Fine e) where
 none : Entry
 none = record { bank = 0; encoder = 0; first = 0; last = 0; number = 0; steps = pos 0; doubles = 0 }
 
-text-more : (es fs : List Entry) → flatten (map stretchText (es ++ fs)) ≡ flatten (map stretchText es) ++ flatten (map stretchText fs)
+text_more : (es fs : List Entry) → flatten (map stretch_text (es ++ fs)) ≡ flatten (map stretch_text es) ++ flatten (map stretch_text fs)
 unfolding flatten
-text-more [] fs = refl
-text-more (e ∷ es) fs = ap (λ (l : List ℕ). stretchText e ++ l) (text-more es fs) ∙ sym (append_assoc (stretchText e) (flatten (map stretchText es)) (flatten (map stretchText fs)))
+text_more [] fs = refl
+text_more (e ∷ es) fs = ap (λ (l : List ℕ). stretch_text e ++ l) (text_more es fs) ∙ sym (append_assoc (stretch_text e) (flatten (map stretch_text es)) (flatten (map stretch_text fs)))
 
 module _ (es : List Entry) (small : Each Fine es) (out s : List ℕ) (is : s ≡ listing es out) (i : ℕ) (h : i < length es) where
   abbrev e : Entry
   e = get_or es i none
 
   abbrev front : List ℕ
-  front = flatten (map entryBytes (take i es))
+  front = flatten (map entry_bytes (take i es))
 
   abbrev behind : List ℕ
-  behind = flatten (map entryBytes (drop (suc i) es)) ++ drop (length (flatten (map entryBytes es))) out
+  behind = flatten (map entry_bytes (drop (suc i) es)) ++ drop (length (flatten (map entry_bytes es))) out
 
-  one : flatten (map entryBytes es) ≡ front ++ (entryBytes e ++ flatten (map entryBytes (drop (suc i) es)))
+  one : flatten (map entry_bytes es) ≡ front ++ (entry_bytes e ++ flatten (map entry_bytes (drop (suc i) es)))
   unfolding flatten
   one =
-      ap (λ (l : List Entry). flatten (map entryBytes l)) (split_at es i none h)
-      ∙ concat-more entryBytes entry-long (take i es) (e ∷ drop (suc i) es)
+      ap (λ (l : List Entry). flatten (map entry_bytes l)) (split_at es i none h)
+      ∙ concat_more entry_bytes entry_long (take i es) (e ∷ drop (suc i) es)
 
-  stands : s ≡ front ++ (entryBytes e ++ behind)
+  stands : s ≡ front ++ (entry_bytes e ++ behind)
   unfolding listing over
   stands =
       is
-      ∙ ap (λ (l : List ℕ). l ++ drop (length (flatten (map entryBytes es))) out) one
-      ∙ append_assoc front (entryBytes e ++ flatten (map entryBytes (drop (suc i) es))) (drop (length (flatten (map entryBytes es))) out)
-      ∙ ap (λ (l : List ℕ). front ++ l) (append_assoc (entryBytes e) (flatten (map entryBytes (drop (suc i) es))) (drop (length (flatten (map entryBytes es))) out))
+      ∙ ap (λ (l : List ℕ). l ++ drop (length (flatten (map entry_bytes es))) out) one
+      ∙ append_assoc front (entry_bytes e ++ flatten (map entry_bytes (drop (suc i) es))) (drop (length (flatten (map entry_bytes es))) out)
+      ∙ ap (λ (l : List ℕ). front ++ l) (append_assoc (entry_bytes e) (flatten (map entry_bytes (drop (suc i) es))) (drop (length (flatten (map entry_bytes es))) out))
 
   place : 32 * i ≡ length front
-  place = omega (arith, length-concat entryBytes entry-long (take i es), length-take-le i es (omega arith))
+  place = omega (arith, length_concat entry_bytes entry_long (take i es), length-take-le i es (omega arith))
 
-  pub entry-there : There s (32 * i)
-  entry-there = record {
-    within = omega (arith, place, ap length stands, length-append front (entryBytes e ++ behind), length-append (entryBytes e) behind, entry-long e);
+  pub entry_there : There s (32 * i)
+  entry_there = record {
+    within = omega (arith, place, ap length stands, length-append front (entry_bytes e ++ behind), length-append (entry_bytes e) behind, entry_long e);
     doubles = rw stands (rw (last e (each_at Fine none es i small h) front behind (32 * i) place) (omega (arith, (each_at Fine none es i small h).doubles)));
   }
 
-  pub one_more : flatten (map stretchText (take (i + 1) es)) ≡ flatten (map stretchText (take i es)) ++ speltAt s (32 * i)
+  pub one_more : flatten (map stretch_text (take (i + 1) es)) ≡ flatten (map stretch_text (take i es)) ++ spelt_at s (32 * i)
   unfolding flatten
   one_more =
       rw (add-one i, take-suc es i none h)
-      (text-more (take i es) (e ∷ [])
-      ∙ ap (λ (l : List ℕ). flatten (map stretchText (take i es)) ++ l) (append-nil (stretchText e) ∙ sym (spelt-there e (each_at Fine none es i small h) front behind (32 * i) place) ∙ ap (λ (l : List ℕ). speltAt l (32 * i)) (sym stands)))
+      (text_more (take i es) (e ∷ [])
+      ∙ ap (λ (l : List ℕ). flatten (map stretch_text (take i es)) ++ l) (append-nil (stretch_text e) ∙ sym (spelt_there e (each_at Fine none es i small h) front behind (32 * i) place) ∙ ap (λ (l : List ℕ). spelt_at l (32 * i)) (sym stands)))

@@ -3,10 +3,10 @@
 -- Assumes nothing.
 use Rattle.std.specs.Prelude.{◌≡◌, ℕ, ◌+◌, ◌-◌, ◌*◌, ◌/◌, ◌%◌, ◌<◌, ◌≤◌, cond, List, [], ◌∷◌, ◌++◌, length, ℤ, pos, negsuc, ◌==◌, nat_lt, slice_index, unsigned_abs}
 use Rattle.decimal.specs.Ascii.{ascii}
-use Rattle.form.specs.Form.{formText}
+use Rattle.form.specs.Form.{form_text}
 use Rattle.text.specs.Text.{line}
 use Rattle.numbers.specs.Bytes.{le_of}
-use Rattle.sign.specs.Sign.{stretchesOf}
+use Rattle.sign.specs.Sign.{stretches_of}
 use Rattle.sign_entry.specs.Entry.{listing}
 use Rattle.sign_print.specs.Said.{counted}
 
@@ -16,39 +16,39 @@ whole_of n = cond (nat_lt n 9223372036854775808) (pos n) (negsuc (18446744073709
 
 -- ---- a stretch
 
-abbrev pub stretchForm : List ℕ
-stretchForm =
+abbrev pub stretch_form : List ℕ
+stretch_form =
     ascii "bank " ++ 35 ∷ ascii " encoder " ++ 35 ∷ ascii ": records " ++ 35 ∷ ascii " to " ++ 35 ∷ ascii ", " ++ 35 ∷ ascii " pin" ++ 126 ∷ ascii ", " ++ 94 ∷ 35 ∷ (ascii " step")
     ++ 126 ∷ ascii ", " ++ 35 ∷ ascii " double change" ++ 126 ∷ ascii ", travel " ++ 94 ∷ 35 ∷ ascii " to " ++ 94 ∷ 35 ∷ []
 
 -- what it is filled in by: bank, encoder, first and last record; pins, steps and double changes, each with its s; the travel
-abbrev pub numbersBy : ℕ → ℕ → ℕ → ℕ → ℕ → ℕ → ℕ → ℕ → ℕ → List ℕ
-numbersBy bank encoder first last pins steps d least most =
+abbrev pub numbers_by : ℕ → ℕ → ℕ → ℕ → ℕ → ℕ → ℕ → ℕ → ℕ → List ℕ
+numbers_by bank encoder first last pins steps d least most =
     bank ∷ encoder ∷ first ∷ last ∷ pins ∷ pins ∷ steps ∷ unsigned_abs (whole_of steps) ∷ unsigned_abs (whole_of steps) ∷ d ∷ d
     ∷ least ∷ unsigned_abs (whole_of least) ∷ most ∷ unsigned_abs (whole_of most) ∷ []
 
-abbrev pub numbersOf : ℕ → ℕ → ℕ → ℕ → List ℕ
-numbersOf names span steps d =
-    numbersBy (names % 256) (names / 256 % 256) (names / 4294967296) (span % 4294967296) (span / 4294967296) steps d
+abbrev pub numbers_of : ℕ → ℕ → ℕ → ℕ → List ℕ
+numbers_of names span steps d =
+    numbers_by (names % 256) (names / 256 % 256) (names / 4294967296) (span % 4294967296) (span / 4294967296) steps d
     ((steps + 18446744073709551616 - 2 * d) % 18446744073709551616) ((steps + 2 * d) % 18446744073709551616)
 
 -- "0 open, 1 forward, 2 backward, 3 still": the words in this order, and where each of them starts
-abbrev pub verdictWords : List ℕ
-verdictWords = ascii ": open, " ++ 35 ∷ ascii " step" ++ 126 ∷ ascii " short of a direction" ++ 10 ∷ ascii ": forward" ++ 10 ∷ ascii ": backward" ++ 10 ∷ ascii ": still" ++ 10 ∷ []
+abbrev pub verdict_words : List ℕ
+verdict_words = ascii ": open, " ++ 35 ∷ ascii " step" ++ 126 ∷ ascii " short of a direction" ++ 10 ∷ ascii ": forward" ++ 10 ∷ ascii ": backward" ++ 10 ∷ ascii ": still" ++ 10 ∷ []
 
-abbrev pub wordsAt : ℕ → ℕ
-wordsAt v = slice_index (0 ∷ 37 ∷ 47 ∷ 58 ∷ 66 ∷ []) v
+abbrev pub words_at : ℕ → ℕ
+words_at v = slice_index (0 ∷ 37 ∷ 47 ∷ 58 ∷ 66 ∷ []) v
 
-unfoldable pub numberedText : ℕ → ℕ → ℕ → List ℕ
-numberedText v size d =
+unfoldable pub numbered_text : ℕ → ℕ → ℕ → List ℕ
+numbered_text v size d =
     cond (v == 1) (ascii ": forward") (cond (v == 2) (ascii ": backward") (cond (v == 3) (ascii ": still") (ascii ": open, " ++ counted (2 * d + 1 - size) (ascii " step") ++ ascii " short of a direction")))
 
 unfoldable pub spelt : ℕ → ℕ → ℕ → ℕ → List ℕ
-spelt names span steps d = formText stretchForm (numbersOf names span steps d) ++ line (numberedText (names / 65536 % 4) (unsigned_abs (whole_of steps)) d)
+spelt names span steps d = form_text stretch_form (numbers_of names span steps d) ++ line (numbered_text (names / 65536 % 4) (unsigned_abs (whole_of steps)) d)
 
 -- the entry at a place
-abbrev pub speltAt : List ℕ → ℕ → List ℕ
-speltAt s at = spelt (le_of 8 s at) (le_of 8 s (at + 8)) (le_of 8 s (at + 16)) (le_of 8 s (at + 24))
+abbrev pub spelt_at : List ℕ → ℕ → List ℕ
+spelt_at s at = spelt (le_of 8 s at) (le_of 8 s (at + 8)) (le_of 8 s (at + 16)) (le_of 8 s (at + 24))
 
 pub record There (s : List ℕ) (at : ℕ) : Type 0 where
   pub within : at + 32 ≤ length s
@@ -57,6 +57,6 @@ pub record There (s : List ℕ) (at : ℕ) : Type 0 where
 -- a log's entries stand in front
 pub record Entries (log entries : List ℕ) (n : ℕ) : Type 0 where
   pub few : n < 2048
-  pub all : n ≡ length (stretchesOf log)
+  pub all : n ≡ length (stretches_of log)
   pub out : List ℕ
-  pub listed : entries ≡ listing (stretchesOf log) out
+  pub listed : entries ≡ listing (stretches_of log) out

@@ -3,11 +3,11 @@
 ghost use Rattle.std.specs.Prelude.{◌≡◌, ◌+◌, ◌-◌, ◌*◌, ◌<◌, ◌≤◌, length, unsigned_abs};
 ghost use Rattle.io.specs.Counts.{IsPrefixLen};
 ghost use Rattle.decimal.specs.Put.{Put};
-ghost use Rattle.fold.specs.Output.{stopOf};
-ghost use Rattle.replay.specs.Replay.{replayOf};
+ghost use Rattle.fold.specs.Output.{stop_of};
+ghost use Rattle.replay.specs.Replay.{replay_of};
 ghost use Rattle.text.specs.Text.{line};
-ghost use Rattle.sign_print.specs.Said.{stretchesText, endText, signText};
-ghost use Rattle.sign_print.specs.How.{whole_of, wordsAt, numberedText, numbersOf, spelt, speltAt, There, Entries};
+ghost use Rattle.sign_print.specs.Said.{stretches_text, end_text, sign_text};
+ghost use Rattle.sign_print.specs.How.{whole_of, words_at, numbered_text, numbers_of, spelt, spelt_at, There, Entries};
 
 use fold::Stop;
 use libc::STDIN_FILENO;
@@ -43,14 +43,14 @@ const WORDS: [usize; 5] = [0, 37, 47, 58, 66];
 
 fn words_at(verdict: usize) -> usize
     requires { verdict < 5 }
-    ensures { result ≡ wordsAt verdict }
+    ensures { result ≡ words_at verdict }
 {
     WORDS[verdict]
 }
 
 fn put_verdict(text: &mut [u8], at: usize, verdict: u64, size: u64, doubles: u64) -> usize
     requires { (verdict < 4) × (doubles < 4096) }
-    ensures { Put text.old at (line (numberedText verdict size doubles)) text.new result }
+    ensures { Put text.old at (line (numbered_text verdict size doubles)) text.new result }
 {
     let words: &[u8] = b": open, # step~ short of a direction\n: forward\n: backward\n: still\n";
     let from = words_at(verdict as usize);
@@ -62,7 +62,7 @@ fn put_verdict(text: &mut [u8], at: usize, verdict: u64, size: u64, doubles: u64
 
 fn line_numbers(names: u64, span: u64, steps: u64, doubles: u64) -> [u64; 15]
     requires { doubles < 4096 }
-    ensures { result ≡ numbersOf names span steps doubles }
+    ensures { result ≡ numbers_of names span steps doubles }
 {
     let pins = span / 4294967296;
     let moved = size(steps);
@@ -105,7 +105,7 @@ fn put_stretch(text: &mut [u8], at: usize, names: u64, span: u64, steps: u64, do
 // The same of the entry at a place.
 fn put_entry(text: &mut [u8], at: usize, entries: &[u8], from: usize) -> usize
     requires { There entries.now from }
-    ensures { Put text.old at (speltAt entries.now from) text.new result }
+    ensures { Put text.old at (spelt_at entries.now from) text.new result }
 {
     let names = numbers::le64(entries, from);
     let span = numbers::le64(entries, from + 8);
@@ -119,7 +119,7 @@ fn put_entry(text: &mut [u8], at: usize, entries: &[u8], from: usize) -> usize
 // The lines of a log's first n entries. The log itself is only spoken of.
 fn put_stretches(text: &mut [u8], log: &[u8], entries: &[u8], n: usize) -> usize
     requires { Entries log.now entries.now n }
-    ensures { Put text.old 0 (stretchesText log.now) text.new result }
+    ensures { Put text.old 0 (stretches_text log.now) text.new result }
 {
     let mut end: usize = 0;
     let mut i: usize = 0;
@@ -132,15 +132,15 @@ fn put_stretches(text: &mut [u8], log: &[u8], entries: &[u8], n: usize) -> usize
 
 // What the replay says, with room for each reading.
 fn replayed(log: &[u8]) -> Stop
-    ensures { result ≡ stopOf (replayOf log.now 16_384) }
+    ensures { result ≡ stop_of (replay_of log.now 16_384) }
 {
     let mut readings = [0u8; 16384];
     replay::replay(log, &mut readings)
 }
 
 fn put_stop(text: &mut [u8], at: usize, log: &[u8]) -> usize
-    ensures put { Put text.old at (endText log.now) text.new result }
-    ensures log_len_bound { length (endText log.now) ≤ 58 }
+    ensures put { Put text.old at (end_text log.now) text.new result }
+    ensures log_len_bound { length (end_text log.now) ≤ 58 }
 {
     let stop = replayed(log);
     let numbers = [stop.applied as u64, stop.refused as u64];
@@ -150,8 +150,8 @@ fn put_stop(text: &mut [u8], at: usize, log: &[u8]) -> usize
 // 65,504 bytes have room for an entry of each record that a log can have, so that 6 is not given. Their lines, of at most 146 bytes, and the
 // last, of at most 58, fit 298,920.
 pub fn sign_log(text: &mut [u8], log: &[u8]) -> usize
-    ensures put { Put text.old 0 (signText log.now) text.new result }
-    ensures log_len_bound { length (signText log.now) ≤ 298_920 }
+    ensures put { Put text.old 0 (sign_text log.now) text.new result }
+    ensures log_len_bound { length (sign_text log.now) ≤ 298_920 }
 {
     let mut entries = [0u8; 65504];
     let signs = sign::sign(log, &mut entries);

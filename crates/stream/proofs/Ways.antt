@@ -18,83 +18,83 @@ use Rattle.live_state.specs.declared.Stream.{Stream}
 use Rattle.live_state.specs.declared.Chunked.{Chunked}
 use Rattle.codec.specs.How.{Bytes}
 use Rattle.image_state.specs.Image.{size, image_of, Fits, Stands}
-use Rattle.image_state.specs.How.{load_of, isState, Loads, Saves}
+use Rattle.image_state.specs.How.{load_of, is_state, Loads, Saves}
 use Rattle.image_state.proofs.Passing.{passed}
-use Rattle.image_state.proofs.Loaded.{image-long, stands, only-states}
-use Rattle.stream.specs.Stream.{start_of, startedIn, On}
+use Rattle.image_state.proofs.Loaded.{image_long, stands, only_states}
+use Rattle.stream.specs.Stream.{start_of, started_in, On}
 use Rattle.stream.specs.declared.Told.{Told}
-use Rattle.stream.proofs.Keeping.{fits-chunk, fits_fresh}
+use Rattle.stream.proofs.Keeping.{fits_chunk, fits_fresh}
 
 -- a slice's elements are bytes, as the code knows it
 abbrev Held : List ℕ → Type 0
 Held s = (i : ℕ) → val.Fits w8 (get_or s i 0)
 
-bytes-held : (s : List ℕ) → Held s → Bytes s
-bytes-held s h i = let f = h i in omega arith
+bytes_held : (s : List ℕ) → Held s → Bytes s
+bytes_held s h i = let f = h i in omega arith
 
 -- an image over what was there
-pub image-over : (l : Live) → Fits l → (state : List ℕ) → image_of l ++ drop size state ≡ over (image_of l) state
+pub image_over : (l : Live) → Fits l → (state : List ℕ) → image_of l ++ drop size state ≡ over (image_of l) state
 unfolding over
-image-over l f state = ap (λ (n : ℕ). image_of l ++ drop n state) (sym (image-long l f))
+image_over l f state = ap (λ (n : ℕ). image_of l ++ drop n state) (sym (image_long l f))
 
 -- ---- start
 
 module _ (edition : ℕ) (state : List ℕ) where
-  pub no-edition : (k : Bool) → k ≡ known edition → k ≡ false → 4 ≡ start_of edition (length state)
-  no-edition k is h = rw (← is, h)
+  pub no_edition_lem : (k : Bool) → k ≡ known edition → k ≡ false → 4 ≡ start_of edition (length state)
+  no_edition_lem k is h = rw (← is, h)
 
-  pub no-edition-left : (k : Bool) → k ≡ known edition → k ≡ false → state ≡ startedIn edition state
-  no-edition-left k is h = rw (← is, h)
+  pub no_edition_left : (k : Bool) → k ≡ known edition → k ≡ false → state ≡ started_in edition state
+  no_edition_left k is h = rw (← is, h)
 
   module _ (k : Bool) (is : k ≡ known edition) (h : k ≡ true) where
     pub short : length state < 864 → 6 ≡ start_of edition (length state)
     short l = rw (← is, h, lt-leb size (length state) l)
 
-    pub short-left : length state < 864 → state ≡ startedIn edition state
-    short-left l = rw (← is, h, lt-leb size (length state) l)
+    pub short_left : length state < 864 → state ≡ started_in edition state
+    short_left l = rw (← is, h, lt-leb size (length state) l)
 
     module _ (s : Stream) (fresh : live_of s ≡ fresh_of edition) (good : Good s) where
       fits : Fits (fresh_of edition)
       fits = fits_fresh edition (sym is ∙ h)
 
-      pub fresh-saves : Saves s
-      fresh-saves = record { fits = subst Fits (sym fresh) fits; few = good.few; zeros = good.zeros }
+      pub fresh_saves : Saves s
+      fresh_saves = record { fits = subst Fits (sym fresh) fits; few = good.few; zeros = good.zeros }
 
       module _ (l : 864 ≤ length state) where
         pub starts : 0 ≡ start_of edition (length state)
         starts = rw (← is, h, le-leb size (length state) l)
 
-        pub started : (after : List ℕ) → after ≡ image_of (live_of s) ++ drop size state → after ≡ startedIn edition state
-        started after e = rw (← is, h, le-leb size (length state) l) (e ∙ rw fresh (image-over (fresh_of edition) fits state))
+        pub started : (after : List ℕ) → after ≡ image_of (live_of s) ++ drop size state → after ≡ started_in edition state
+        started after e = rw (← is, h, le-leb size (length state) l) (e ∙ rw fresh (image_over (fresh_of edition) fits state))
 
 -- ---- a state
 
-module _ (state : List ℕ) (t : Bool) (is : t ≡ isState state) where
+module _ (state : List ℕ) (t : Bool) (is : t ≡ is_state state) where
   -- no stream stands in it
   pub nothing : t ≡ false → (l : Live) → Stands state l → ⊥
-  nothing none l h = let z : ◌≡◌ {A = Bool} true false = sym (only-states state l h) ∙ sym is ∙ none in different z
+  nothing none l h = let z : ◌≡◌ {A = Bool} true false = sym (only_states state l h) ∙ sym is ∙ none in different z
     where
       different : ◌≡◌ {A = Bool} true false → ⊥
       different e = let w : ◌≡◌ {A = ℕ} 0 1 = cc in omega arith
 
   module _ (yes : t ≡ true) where
-    pub is_state : isState state ≡ true
-    is_state = sym is ∙ yes
+    pub is_state_lem : is_state state ≡ true
+    is_state_lem = sym is ∙ yes
 
     pub long : 8 + 8 ≤ length state
-    long = omega (arith, (passed state is_state).long)
+    long = omega (arith, (passed state is_state_lem).long)
 
-    pub has-size : size ≤ length state
-    has-size = omega (arith, (passed state is_state).long)
+    pub has_size : size ≤ length state
+    has_size = omega (arith, (passed state is_state_lem).long)
 
     module _ (held : Held state) where
-      pub applied-told : (n : ℕ) → n ≡ le_of 8 state 8 → On state (λ l. n ≡ l.applied) (n ≡ 0)
+      pub applied_told : (n : ℕ) → n ≡ le_of 8 state 8 → On state (λ l. n ≡ l.applied) (n ≡ 0)
       unfolding load_of
-      applied-told n e = inl (load_of state, stands state (bytes-held state held) is_state, e)
+      applied_told n e = inl (load_of state, stands state (bytes_held state held) is_state_lem, e)
 
       module _ (r : Stream) (loads : Loads state r) where
         there : Stands state (live_of r)
-        there = subst (Stands state) (sym loads.live) (stands state (bytes-held state held) is_state)
+        there = subst (Stands state) (sym loads.live) (stands state (bytes_held state held) is_state_lem)
 
         pub good : Good r
         good = record {
@@ -110,7 +110,7 @@ module _ (state : List ℕ) (t : Bool) (is : t ≡ isState state) where
 
         module _ (bytes : List ℕ) (given : Held bytes) (room : ℕ) (c : Chunked) (comes : Comes (chunk_of (live_of r) bytes room) c) where
           fits_on : Fits (live_of c.stream)
-          fits_on = subst Fits (sym comes.live) (fits-chunk (live_of r) there.0 bytes (bytes-held bytes given) room)
+          fits_on = subst Fits (sym comes.live) (fits_chunk (live_of r) there.0 bytes (bytes_held bytes given) room)
 
           pub saves : Good c.stream → Saves c.stream
           saves g = record { fits = fits_on; few = g.few; zeros = g.zeros }
@@ -122,7 +122,7 @@ module _ (state : List ℕ) (t : Bool) (is : t ≡ isState state) where
           tells = inl (live_of r, there, cc)
 
           pub keeps : (after : List ℕ) → after ≡ image_of (live_of c.stream) ++ drop size state → On state (λ l. after ≡ over (image_of (chunk_of l bytes room).live) state) (after ≡ state)
-          keeps after e = inl (live_of r, there, e ∙ image-over (live_of c.stream) fits_on state ∙ ap (λ (l : Live). over (image_of l) state) comes.live)
+          keeps after e = inl (live_of r, there, e ∙ image_over (live_of c.stream) fits_on state ∙ ap (λ (l : Live). over (image_of l) state) comes.live)
 
         pub output : (bytes out out' : List ℕ) → out' ≡ written_by (chunk_of (live_of r) bytes (length out)) out → On state (λ l. out' ≡ written_by (chunk_of l bytes (length out)) out) (out' ≡ out)
         output bytes out out' e = inl (live_of r, there, e)

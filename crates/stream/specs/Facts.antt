@@ -4,9 +4,9 @@ use Rattle.std.specs.Prelude.{ℕ, ◌<◌, ◌≡◌, List, [], ◌∷◌, ◌+
 use Rattle.fold.specs.Output.{over}
 use Rattle.numbers.specs.Bytes.{byte}
 use Rattle.live_state.specs.Live.{Live, fresh_of, taken_of, chunk_of}
-use Rattle.live_cut.specs.Cut.{Lent, bytesIn, Roomy}
+use Rattle.live_cut.specs.Cut.{Lent, bytes_in, Roomy}
 use Rattle.image_state.specs.Image.{image_of, Stands}
-use Rattle.stream.specs.Stream.{start_of, startedIn, On}
+use Rattle.stream.specs.Stream.{start_of, started_in, On}
 
 -- chunk after chunk on the lent bytes: each call leaves them, and writes of the readings vs, as the contract of `rvz_stream_chunk` says
 unfoldable pub Called : List ℕ → List Lent → List ℕ → List ℕ → Type 0
@@ -17,14 +17,14 @@ Called state (c ∷ cs) after vs = (mid : List ℕ) × (ws : List ℕ)
 
 pub record Streams : Type 0 where
   -- in what is started stands the fresh stream
-  pub starts : (edition : ℕ) (state : List ℕ) → start_of edition (length state) ≡ 0 → Stands (startedIn edition state) (fresh_of edition)
+  pub starts : (edition : ℕ) (state : List ℕ) → start_of edition (length state) ≡ 0 → Stands (started_in edition state) (fresh_of edition)
   -- and in a state afterwards the stream that a chunk comes to
   pub keeps : (state bytes : List ℕ) (room : ℕ) (l : Live) → ((i : ℕ) → byte bytes i < 256) → Stands state l
       → Stands (over (image_of (chunk_of l bytes room).live) state) (chunk_of l bytes room).live
   -- "however a run of whole records is cut, with room enough each time", from the start on: in the end there stands in the lent bytes the stream that
   -- one chunk of all its bytes comes to, and the readings are those of that chunk
-  pub any-calls : (edition : ℕ) (state after vs : List ℕ) (cs : List Lent) → start_of edition (length state) ≡ 0 → ((i : ℕ) → byte (bytesIn cs) i < 256)
-      → Roomy (fresh_of edition) cs → Called (startedIn edition state) cs after vs → let t = taken_of (fresh_of edition) (bytesIn cs) in
+  pub any_calls : (edition : ℕ) (state after vs : List ℕ) (cs : List Lent) → start_of edition (length state) ≡ 0 → ((i : ℕ) → byte (bytes_in cs) i < 256)
+      → Roomy (fresh_of edition) cs → Called (started_in edition state) cs after vs → let t = taken_of (fresh_of edition) (bytes_in cs) in
       Stands after t.live × (vs ≡ t.readings)
 
 -- "Any two outcomes allowed by a contract are proved the same": P allows one of each stream, and N one where none stands

@@ -10,8 +10,8 @@ use Rattle.image_state.specs.Image.{size, image_of, Stands}
 abbrev pub start_of : ℕ → ℕ → ℕ
 start_of edition room = cond (known edition) (cond (leb size room) 0 6) 4
 
-abbrev pub startedIn : ℕ → List ℕ → List ℕ
-startedIn edition state = cond (eqb (start_of edition (length state)) 0) (over (image_of (fresh_of edition)) state) state
+abbrev pub started_in : ℕ → List ℕ → List ℕ
+started_in edition state = cond (eqb (start_of edition (length state)) 0) (over (image_of (fresh_of edition)) state) state
 
 -- any bytes as a state: P of the stream that stands in them or, where none does, N
 abbrev pub On : List ℕ → (Live → Type 0) → Type 0 → Type 0

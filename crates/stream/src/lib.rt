@@ -4,7 +4,7 @@ ghost use Rattle.fold.specs.Output.{bytes_of, over};
 ghost use Rattle.numbers.specs.Bytes.{le_bytes};
 ghost use Rattle.live_state.specs.Live.{chunk_of, end_of};
 ghost use Rattle.image_state.specs.Image.{image_of};
-ghost use Rattle.stream.specs.Stream.{start_of, startedIn, On};
+ghost use Rattle.stream.specs.Stream.{start_of, started_in, On};
 
 use edition::Edition;
 
@@ -17,7 +17,7 @@ pub struct Told {
 
 pub fn start(edition: u64, state: &mut [u8]) -> u8
     ensures value { result ≡ start_of edition (length state.old) }
-    ensures state_after { state.new ≡ startedIn edition state.old }
+    ensures state_after { state.new ≡ started_in edition state.old }
 {
     if Edition::known(edition) {
         if state.len() < 864 {

@@ -3,7 +3,7 @@ ghost use Rattle.std.specs.Prelude.{◌≡◌, ◌≤◌, length};
 ghost use Rattle.io.specs.Counts.{IsPrefixLen};
 ghost use Rattle.decimal.specs.Put.{Put};
 ghost use Rattle.live_state.specs.How.{live_of, Good};
-ghost use Rattle.stream_print.specs.Shown.{arrived, shownOf, last_of, noEdition};
+ghost use Rattle.stream_print.specs.Shown.{arrived, shown_of, last_of, no_edition};
 ghost use Rattle.stream_print.specs.How.{Ready};
 
 use decimal::Decimal;
@@ -24,8 +24,8 @@ pub fn chunk_text(text: &mut [u8], s: Stream, bytes: &[u8]) -> Shown
     requires ready { Ready s }
     requires bytes_len_bound { length bytes.now ≤ 4096 }
     ensures stream_value { live_of result.stream ≡ (arrived (live_of s) bytes.now).live }
-    ensures put { Put text.old 0 (shownOf (arrived (live_of s) bytes.now)) text.new result.size }
-    ensures bytes_len_bound_2 { length (shownOf (arrived (live_of s) bytes.now)) ≤ 5397 }
+    ensures put { Put text.old 0 (shown_of (arrived (live_of s) bytes.now)) text.new result.size }
+    ensures bytes_len_bound_2 { length (shown_of (arrived (live_of s) bytes.now)) ≤ 5397 }
     ensures ready_2 { Ready result.stream }
 {
     let mut out = [0u8; 2056];
@@ -55,7 +55,7 @@ pub fn end_text(text: &mut [u8], s: Stream) -> usize
 
 // The same where the edition is none: nothing is read.
 pub fn no_edition_text(text: &mut [u8]) -> usize
-    ensures { Put text.old 0 noEdition text.new result }
+    ensures { Put text.old 0 no_edition text.new result }
 {
     text::put_pair(text, 0, b"applied ", 0, b" refused ", 4)
 }

@@ -1,6 +1,6 @@
 // Words, numbers and lines, put as bytes into a lent slice. Every function answers the place after what it put.
 ghost use Rattle.std.specs.Prelude.{◌++◌, ◌+◌, ◌≤◌, length};
-ghost use Rattle.decimal.specs.Digits.{digitsOf};
+ghost use Rattle.decimal.specs.Digits.{digits_of};
 ghost use Rattle.decimal.specs.Put.{Put};
 ghost use Rattle.text.specs.Text.{line};
 
@@ -33,7 +33,7 @@ pub fn put_word(out: &mut [u8], at: usize, word: &[u8]) -> usize
 
 // A word and a number.
 pub fn put_count(out: &mut [u8], at: usize, word: &[u8], n: u64) -> usize
-    ensures { Put out.old at (word.now ++ digitsOf n) out.new result }
+    ensures { Put out.old at (word.now ++ digits_of n) out.new result }
 {
     let end = put_word(out, at, word);
     decimal::put(out, end, n)
@@ -41,7 +41,7 @@ pub fn put_count(out: &mut [u8], at: usize, word: &[u8], n: u64) -> usize
 
 // A line of a word and a number.
 pub fn put_line(out: &mut [u8], at: usize, word: &[u8], n: u64) -> usize
-    ensures { Put out.old at (line (word.now ++ digitsOf n)) out.new result }
+    ensures { Put out.old at (line (word.now ++ digits_of n)) out.new result }
 {
     let end = put_count(out, at, word, n);
     decimal::put_byte(out, end, 10)
@@ -49,7 +49,7 @@ pub fn put_line(out: &mut [u8], at: usize, word: &[u8], n: u64) -> usize
 
 // A line of two words, each with a number after it.
 pub fn put_pair(out: &mut [u8], at: usize, first: &[u8], a: u64, second: &[u8], b: u64) -> usize
-    ensures { Put out.old at (line (first.now ++ digitsOf a ++ second.now ++ digitsOf b)) out.new result }
+    ensures { Put out.old at (line (first.now ++ digits_of a ++ second.now ++ digits_of b)) out.new result }
 {
     let end = put_count(out, at, first, a);
     put_line(out, end, second, b)

@@ -5,17 +5,17 @@ use native.Mathlib.Numerals.{lt_of_le_of_ne}
 use Rattle.numbers.specs.Bytes.{le_of}
 use Rattle.transcript.specs.declared.Verdict.TheVariants.{Same, Different}
 use Rattle.transcript.specs.How.{Agree, Plainly, all, until}
-use Rattle.transcript.proofs.Numbers.{in-slice, one_more, the-next}
+use Rattle.transcript.proofs.Numbers.{in_slice, one_more, the_next}
 
 module _ (ts out : List ℕ) (i : ℕ) (agree : Agree i ts out) where
-  pub all-agree : i ≡ length ts / 8 → Plainly ts out Same
-  all-agree e = all (rw e at agree)
+  pub all_agree : i ≡ length ts / 8 → Plainly ts out Same
+  all_agree e = all (rw e at agree)
 
   module _ (t v : ℕ) (is : t ≡ le_of 8 ts (8 * i)) (was : v ≡ le_of 8 out (8 * i)) where
-    pub next-differs : i ≤ length ts / 8 → (i ≡ length ts / 8 → ⊥) → (t ≡ v → ⊥) → Plainly ts out (Different i)
-    next-differs l n d = until (lt_of_le_of_ne l n) agree (λ a. d (is ∙ the-next i ts out a ∙ sym was))
+    pub next_differs : i ≤ length ts / 8 → (i ≡ length ts / 8 → ⊥) → (t ≡ v → ⊥) → Plainly ts out (Different i)
+    next_differs l n d = until (lt_of_le_of_ne l n) agree (λ a. d (is ∙ the_next i ts out a ∙ sym was))
 
-    pub next-agrees : ((k : ℕ) → Fits w8 (get_or ts k 0)) → ((k : ℕ) → Fits w8 (get_or out k 0)) → length ts ≤ length out → i ≤ length ts / 8 → (i ≡ length ts / 8 → ⊥) → t ≡ v → Agree (i + 1) ts out
-    next-agrees b c h l n e =
+    pub next_agrees : ((k : ℕ) → Fits w8 (get_or ts k 0)) → ((k : ℕ) → Fits w8 (get_or out k 0)) → length ts ≤ length out → i ≤ length ts / 8 → (i ≡ length ts / 8 → ⊥) → t ≡ v → Agree (i + 1) ts out
+    next_agrees b c h l n e =
         let k = lt_of_le_of_ne l n in
-        one_more i ts out (in-slice ts b) (in-slice out c) (omega arith) (omega arith) agree (sym is ∙ e ∙ was)
+        one_more i ts out (in_slice ts b) (in_slice out c) (omega arith) (omega arith) agree (sym is ∙ e ∙ was)

@@ -7,7 +7,7 @@ use Rattle.fold.specs.Output.{bytes_of}
 use Rattle.numbers.specs.Bytes.{le_bytes}
 use Rattle.banks.specs.declared.State.{State}
 use Rattle.banks.specs.State.{fresh}
-use Rattle.trailer.specs.Trailer.{trailerOf, recordsOf}
+use Rattle.trailer.specs.Trailer.{trailer_of, records_of}
 use Rattle.trailer.specs.declared.Trailer.TheVariants.{Found}
 use Rattle.replay.specs.Replay.{replayed}
 use Rattle.transcript.specs.Judge.{plain}
@@ -15,8 +15,8 @@ use Rattle.transcript.specs.declared.Verdict.{Verdict}
 use Rattle.transcript.specs.declared.Verdict.TheVariants.{Same, Different}
 
 -- the transcript of a log by what its records do
-abbrev pub transcriptBy : (State → List ℕ → Turn State ℕ) → List ℕ → List ℕ
-transcriptBy turn log = bytes_of (le_bytes 8) (run_of turn fresh (recordsOf log)).readings
+abbrev pub transcript_by : (State → List ℕ → Turn State ℕ) → List ℕ → List ℕ
+transcript_by turn log = bytes_of (le_bytes 8) (run_of turn fresh (records_of log)).readings
 
 -- the first n readings of two transcripts are the same
 abbrev pub Agree : ℕ → List ℕ → List ℕ → Type 0
@@ -26,7 +26,7 @@ Agree n s t = take (8 * n) s ≡ take (8 * n) t
 pub record Ready (log : List ℕ) (start : ℕ) (out ts : List ℕ) : Type 0 where
   pub records : ℕ
   pub edition : ℕ
-  pub found : trailerOf log ≡ Found start records edition
+  pub found : trailer_of log ≡ Found start records edition
   pub within : start + 16 * records ≤ length log
   pub accepted : (replayed log).course ≡ going
   pub wrote : take (length (plain log)) out ≡ plain log

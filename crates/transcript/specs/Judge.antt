@@ -5,7 +5,7 @@ use Rattle.fold.specs.Turn.{Turn, retell}
 use Rattle.fold.specs.Run.{going, stopped, run_of}
 use Rattle.fold.specs.Output.{bytes_of}
 use Rattle.numbers.specs.Bytes.{byte, le_bytes}
-use Rattle.trailer.specs.Trailer.{recordsOf, editionIn}
+use Rattle.trailer.specs.Trailer.{records_of, edition_in}
 use Rattle.banks.specs.declared.State.{State}
 use Rattle.banks.specs.State.{fresh}
 use Rattle.replay.specs.Replay.{played, replayed}
@@ -18,19 +18,19 @@ abbrev pub neg : ℕ → ℕ
 neg v = (2 ^ 32 - v % 2 ^ 32) % 2 ^ 32
 
 -- a record of block 1 and register 2: what it reads is an encoder's CNTR
-abbrev pub ofCntr : List ℕ → Bool
-ofCntr r = byte r 1 == 1 && byte r 3 == 2
+abbrev pub of_cntr : List ℕ → Bool
+of_cntr r = byte r 1 == 1 && byte r 3 == 2
 
 -- what a record does, "once every encoder CNTR reading is negated"
 abbrev pub negating : (State → List ℕ → Turn State ℕ) → State → List ℕ → Turn State ℕ
-negating turn s r = retell (λ (v : ℕ). cond (ofCntr r) (neg v) v) (turn s r)
+negating turn s r = retell (λ (v : ℕ). cond (of_cntr r) (neg v) v) (turn s r)
 
 -- the transcript of a log: its readings, plainly and negated
 abbrev pub plain : List ℕ → List ℕ
-plain log = bytes_of (le_bytes 8) (played (editionIn log) (recordsOf log)).readings
+plain log = bytes_of (le_bytes 8) (played (edition_in log) (records_of log)).readings
 
 abbrev pub opposite : List ℕ → List ℕ
-opposite log = bytes_of (le_bytes 8) (run_of (negating (turn_of (editionIn log))) fresh (recordsOf log)).readings
+opposite log = bytes_of (le_bytes 8) (run_of (negating (turn_of (edition_in log))) fresh (records_of log)).readings
 
 -- What is answered to a log and a transcript ts, in numbers: the refusal, 0 for none; the verdict; and for the verdict 4 the index.
 pub data Judged (log ts : List ℕ) : ℕ × ℕ × ℕ → Type 0 where
@@ -47,12 +47,12 @@ pub data Judged (log ts : List ℕ) : ℕ × ℕ × ℕ → Type 0 where
       → take (8 * i) ts ≡ take (8 * i) (plain log) → (take (8 * (i + 1)) ts ≢ take (8 * (i + 1)) (plain log)) → Judged log ts (0, 4, i)
 
 -- the numbers of an answer
-abbrev pub verdictNumbers : Verdict → ℕ × ℕ × ℕ
-verdictNumbers Same = (0, 1, 0)
-verdictNumbers Negated = (0, 2, 0)
-verdictNumbers Both = (0, 3, 0)
-verdictNumbers (Different i) = (0, 4, i)
-verdictNumbers (Refused k) = (k, 0, 0)
+abbrev pub verdict_numbers : Verdict → ℕ × ℕ × ℕ
+verdict_numbers Same = (0, 1, 0)
+verdict_numbers Negated = (0, 2, 0)
+verdict_numbers Both = (0, 3, 0)
+verdict_numbers (Different i) = (0, 4, i)
+verdict_numbers (Refused k) = (k, 0, 0)
 
 abbrev pub Answer : List ℕ → List ℕ → Verdict → Type 0
-Answer log ts r = Judged log ts (verdictNumbers r)
+Answer log ts r = Judged log ts (verdict_numbers r)

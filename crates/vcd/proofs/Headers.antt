@@ -15,13 +15,13 @@ use Rattle.vcd.specs.declared.Step.{Step}
 use Rattle.vcd.specs.declared.Line.{Line}
 use Rattle.vcd.specs.declared.Line.TheVariants.{Fixed, Var, Unknown, Time, Change, Other}
 use Rattle.vcd.specs.declared.Reader.{Reader}
-use Rattle.vcd.specs.Dump.{wiresFrom, headerOf, bodyFrom, Good}
-use Rattle.vcd.specs.How.{follows, turn_of, varTurn, unknownTurn, opening, unchanged}
+use Rattle.vcd.specs.Dump.{wires_from, header_of, body_from, Good}
+use Rattle.vcd.specs.How.{follows, turn_of, var_turn, unknown_turn, opening, unchanged}
 use Rattle.vcd.proofs.Print.{GoodLines}
 use Rattle.vcd.proofs.Starts.{Fresh, Under, There}
 use Rattle.vcd.proofs.Heart.{at, vars, unknowns}
-use Rattle.vcd.proofs.Parse.{Accepts, fixed-taken, var-taken, unknown-taken, time-taken, change-taken}
-use Rattle.vcd.proofs.Bodies.{Body, by-run, first}
+use Rattle.vcd.proofs.Parse.{Accepts, fixed_taken, var_taken, unknown_taken, time_taken, change_taken}
+use Rattle.vcd.proofs.Bodies.{Body, by_run, first}
 
 -- ---- the header
 
@@ -31,18 +31,18 @@ Fine Ok e [] = Unit {0}
 Fine Ok e (x ∷ xs) = ((x ≡ 5 → ⊥) → Ok e) × Fine Ok (e + 1) xs
 
 -- encoders with none before others
-wires-skip : (line : ℕ → Line) (n e : ℕ) (ys : List ℕ) → wiresFrom line e (replicate n 5 ++ ys) ≡ wiresFrom line (e + n) ys
-unfolding wiresFrom
-wires-skip line zero e ys = rw add-zero
-wires-skip line (suc n) e ys = let i : e + suc n ≡ e + 1 + n = omega arith in rw i (wires-skip line n (e + 1) ys)
+wires_skip : (line : ℕ → Line) (n e : ℕ) (ys : List ℕ) → wires_from line e (replicate n 5 ++ ys) ≡ wires_from line (e + n) ys
+unfolding wires_from
+wires_skip line zero e ys = rw add-zero
+wires_skip line (suc n) e ys = let i : e + suc n ≡ e + 1 + n = omega arith in rw i (wires_skip line n (e + 1) ys)
 
-fresh-skip : (n : ℕ) (ys : List ℕ) → Fresh ys → Fresh (replicate n 5 ++ ys)
-fresh-skip zero ys h = h
-fresh-skip (suc n) ys h = (omega arith, fresh-skip n ys h)
+fresh_skip : (n : ℕ) (ys : List ℕ) → Fresh ys → Fresh (replicate n 5 ++ ys)
+fresh_skip zero ys h = h
+fresh_skip (suc n) ys h = (omega arith, fresh_skip n ys h)
 
-fine-skip : (Ok : ℕ → Type 0) (n e : ℕ) (ys : List ℕ) → Fine Ok (e + n) ys → Fine Ok e (replicate n 5 ++ ys)
-fine-skip Ok zero e ys h = rw add-zero at h
-fine-skip Ok (suc n) e ys h = (λ m. absurd (m refl), fine-skip Ok n (e + 1) ys (subst (λ (i : ℕ). Fine Ok i ys) (omega arith) h))
+fine_skip : (Ok : ℕ → Type 0) (n e : ℕ) (ys : List ℕ) → Fine Ok (e + n) ys → Fine Ok e (replicate n 5 ++ ys)
+fine_skip Ok zero e ys h = rw add-zero at h
+fine_skip Ok (suc n) e ys h = (λ m. absurd (m refl), fine_skip Ok n (e + 1) ys (subst (λ (i : ℕ). Fine Ok i ys) (omega arith) h))
 
 abbrev Declared : List ℕ → ℕ → Type 0
 Declared all e = get_or all e 0 ≡ 4
@@ -72,11 +72,11 @@ record Wire (k a : ℕ) (pins : List ℕ) (ls : List Line) : Type 0 where
   next : Accepts (at k (w + 1) 0 after unchanged) rest
 
 module _ (a : ℕ) (pins : List ℕ) where
-  var-line : (w : ℕ) (ls : List Line) → GoodLines (Var w ∷ ls) → Accepts (at 2 a 0 pins unchanged) (Var w ∷ ls) → Wire 2 a pins (Var w ∷ ls)
+  var_line : (w : ℕ) (ls : List Line) → GoodLines (Var w ∷ ls) → Accepts (at 2 a 0 pins unchanged) (Var w ∷ ls) → Wire 2 a pins (Var w ∷ ls)
   unfolding turn_of
-  var-line w ls g h =
-      let q = var-taken 2 a 0 pins unchanged ls w h in
-      let e : varTurn (at 2 a 0 pins unchanged) w ≡ at 2 (w + 1) 0 (set pins (w / 2) 4) unchanged = rw q.1 in
+  var_line w ls g h =
+      let q = var_taken 2 a 0 pins unchanged ls w h in
+      let e : var_turn (at 2 a 0 pins unchanged) w ≡ at 2 (w + 1) 0 (set pins (w / 2) 4) unchanged = rw q.1 in
       record {
         w = w;
         rest = ls;
@@ -91,11 +91,11 @@ module _ (a : ℕ) (pins : List ℕ) where
         next = subst (λ (r : Reader). Accepts r ls) e h;
       }
 
-  unknown-line : (w : ℕ) (ls : List Line) → GoodLines (Unknown w ∷ ls) → Accepts (at 5 a 0 pins unchanged) (Unknown w ∷ ls) → Wire 5 a pins (Unknown w ∷ ls)
+  unknown_line : (w : ℕ) (ls : List Line) → GoodLines (Unknown w ∷ ls) → Accepts (at 5 a 0 pins unchanged) (Unknown w ∷ ls) → Wire 5 a pins (Unknown w ∷ ls)
   unfolding turn_of
-  unknown-line w ls g h =
-      let q = unknown-taken 5 a 0 pins unchanged ls w h in
-      let e : unknownTurn (at 5 a 0 pins unchanged) w ≡ at 5 (w + 1) 0 pins unchanged = rw (q.1, q.2) in
+  unknown_line w ls g h =
+      let q = unknown_taken 5 a 0 pins unchanged ls w h in
+      let e : unknown_turn (at 5 a 0 pins unchanged) w ≡ at 5 (w + 1) 0 pins unchanged = rw (q.1, q.2) in
       record {
         w = w;
         rest = ls;
@@ -110,20 +110,20 @@ module _ (a : ℕ) (pins : List ℕ) where
         next = subst (λ (r : Reader). Accepts r ls) e h;
       }
 
-  head-line : (k : ℕ) (ls : List Line) → k < 6 → GoodLines ls → Accepts (at k a 0 pins unchanged) ls → End k a ls ⊎ Wire k a pins ls
-  head-line k [] s g h = absurd (false≢true (rw (ne_eqb k 6 (omega arith), ne_eqb k 8 (omega arith)) at h))
-  head-line k (Fixed j ∷ ls) s g h =
-      let q = fixed-taken k a 0 pins unchanged ls j h in
+  head_line : (k : ℕ) (ls : List Line) → k < 6 → GoodLines ls → Accepts (at k a 0 pins unchanged) ls → End k a ls ⊎ Wire k a pins ls
+  head_line k [] s g h = absurd (false≢true (rw (ne_eqb k 6 (omega arith), ne_eqb k 8 (omega arith)) at h))
+  head_line k (Fixed j ∷ ls) s g h =
+      let q = fixed_taken k a 0 pins unchanged ls j h in
       inl (record { rest = ls; lines = ap (λ (i : ℕ). Fixed i ∷ ls) (sym q.0); even = q.1; good = g.1 })
-  head-line k (Var w ∷ ls) s g h = let e = (var-taken k a 0 pins unchanged ls w h).0 in rw e (inr (var-line w ls g (rw e at h)))
-  head-line k (Unknown w ∷ ls) s g h = let e = (unknown-taken k a 0 pins unchanged ls w h).0 in rw e (inr (unknown-line w ls g (rw e at h)))
-  head-line k (Time t ∷ ls) s g h = absurd (false≢true (rw (ne_eqb k 6 (omega arith), ne_eqb k 8 (omega arith)) at (time-taken k a 0 pins unchanged ls t h).0))
-  head-line k (Change w b ∷ ls) s g h = absurd (false≢true (rw (ne_eqb k 7 (omega arith), ne_eqb k 8 (omega arith)) at (change-taken k a 0 pins unchanged ls w b h).0))
-  head-line k (Other ∷ ls) s g h = absurd g.0
+  head_line k (Var w ∷ ls) s g h = let e = (var_taken k a 0 pins unchanged ls w h).0 in rw e (inr (var_line w ls g (rw e at h)))
+  head_line k (Unknown w ∷ ls) s g h = let e = (unknown_taken k a 0 pins unchanged ls w h).0 in rw e (inr (unknown_line w ls g (rw e at h)))
+  head_line k (Time t ∷ ls) s g h = absurd (false≢true (rw (ne_eqb k 6 (omega arith), ne_eqb k 8 (omega arith)) at (time_taken k a 0 pins unchanged ls t h).0))
+  head_line k (Change w b ∷ ls) s g h = absurd (false≢true (rw (ne_eqb k 7 (omega arith), ne_eqb k 8 (omega arith)) at (change_taken k a 0 pins unchanged ls w b h).0))
+  head_line k (Other ∷ ls) s g h = absurd g.0
 
 -- where no wire can come
-fixed-next : (k : ℕ) (pins : List ℕ) (ls : List Line) → k < 6 → (k ≡ 2 → ⊥) → (k ≡ 5 → ⊥) → GoodLines ls → Accepts (at k 0 0 pins unchanged) ls → End k 0 ls
-fixed-next k pins ls s n m g h = by (head-line 0 pins k ls s g h)
+fixed_next : (k : ℕ) (pins : List ℕ) (ls : List Line) → k < 6 → (k ≡ 2 → ⊥) → (k ≡ 5 → ⊥) → GoodLines ls → Accepts (at k 0 0 pins unchanged) ls → End k 0 ls
+fixed_next k pins ls s n m g h = by (head_line 0 pins k ls s g h)
   where
     none : (k ≡ 2) ⊎ (k ≡ 5) → ⊥
     none (inl e) = n e
@@ -135,13 +135,13 @@ fixed-next k pins ls s n m g h = by (head-line 0 pins k ls s g h)
 
 -- ---- the wires of an encoder
 
-follows-even : (a w : ℕ) → a % 2 ≡ 0 → follows a w ≡ true → (w % 2 ≡ 0) × (a ≤ w)
-follows-even a w e h =
+follows_even : (a w : ℕ) → a % 2 ≡ 0 → follows a w ≡ true → (w % 2 ≡ 0) × (a ≤ w)
+follows_even a w e h =
     let q = both_true (eqb (w % 2) 0) (leb a w) (rw (ne_eqb (a % 2) 1 (omega arith)) at h) in
     (eqb-true (w % 2) 0 q.0, leb-true a w q.1)
 
-follows-odd : (a w : ℕ) → a % 2 ≡ 1 → follows a w ≡ true → w ≡ a
-follows-odd a w e h = eqb-true w a (rw (eq-eqb (a % 2) 1 e) at h)
+follows_odd : (a w : ℕ) → a % 2 ≡ 1 → follows a w ≡ true → w ≡ a
+follows_odd a w e h = eqb-true w a (rw (eq-eqb (a % 2) 1 e) at h)
 
 record Two (k a : ℕ) (pins : List ℕ) (ls : List Line) : Type 0 where
   w : ℕ
@@ -159,10 +159,10 @@ record Two (k a : ℕ) (pins : List ℕ) (ls : List Line) : Type 0 where
 module _ (k a : ℕ) (pins : List ℕ) (ls : List Line) (small : k < 6) (even : a % 2 ≡ 0) where
   -- after its A just its B
   two : (x : Wire k a pins ls) → End k (x.w + 1) x.rest ⊎ Wire k (x.w + 1) x.after x.rest → Two k a pins ls
-  two x (inl y) = absurd (omega (arith, y.even, follows-even a x.w even x.comes))
+  two x (inl y) = absurd (omega (arith, y.even, follows_even a x.w even x.comes))
   two x (inr y) =
-      let f = follows-even a x.w even x.comes in
-      let e = follows-odd (x.w + 1) y.w (omega (arith, f.0)) y.comes in
+      let f = follows_even a x.w even x.comes in
+      let e = follows_odd (x.w + 1) y.w (omega (arith, f.0)) y.comes in
       let i : y.w + 1 ≡ x.w + 2 = omega arith in
       record {
         w = x.w;
@@ -179,11 +179,11 @@ module _ (k a : ℕ) (pins : List ℕ) (ls : List Line) (small : k < 6) (even : 
       }
 
   step : GoodLines ls → Accepts (at k a 0 pins unchanged) ls → End k a ls ⊎ Two k a pins ls
-  step g h = by (head-line a pins k ls small g h)
+  step g h = by (head_line a pins k ls small g h)
     where
       by : End k a ls ⊎ Wire k a pins ls → End k a ls ⊎ Two k a pins ls
       by (inl x) = inl x
-      by (inr x) = inr (two x (head-line (x.w + 1) x.after k x.rest small x.good x.next))
+      by (inr x) = inr (two x (head_line (x.w + 1) x.after k x.rest small x.good x.next))
 
 -- ---- the wires of all encoders from wire a on, up to the fixed line k
 
@@ -193,33 +193,33 @@ record Wired (k a : ℕ) (all : List ℕ) (ls : List Line) : Type 0 where
   long : a / 2 + length xs ≡ 20
   fresh : Fresh xs
   fine : k ≡ 5 → Fine (Declared all) (a / 2) xs
-  lines : ls ≡ wiresFrom (line_at k) (a / 2) xs ++ Fixed k ∷ rest
+  lines : ls ≡ wires_from (line_at k) (a / 2) xs ++ Fixed k ∷ rest
   good : GoodLines rest
 
 module _ (k a : ℕ) (all : List ℕ) (ls : List Line) where
-  none-wired : End k a ls → a ≤ 40 → Wired k a all ls
-  unfolding wiresFrom
-  none-wired x most = let n = 20 - a / 2 in record {
+  none_wired : End k a ls → a ≤ 40 → Wired k a all ls
+  unfolding wires_from
+  none_wired x most = let n = 20 - a / 2 in record {
     xs = replicate n 5 ++ [];
     rest = x.rest;
     long = omega (arith, length-append {A = ℕ} (replicate n 5) [], length-replicate {A = ℕ} n 5, x.even);
-    fresh = fresh-skip n [] tt;
-    fine = λ _. fine-skip (Declared all) n (a / 2) [] tt;
-    lines = rw (wires-skip (line_at k) n (a / 2) []) x.lines;
+    fresh = fresh_skip n [] tt;
+    fine = λ _. fine_skip (Declared all) n (a / 2) [] tt;
+    lines = rw (wires_skip (line_at k) n (a / 2) []) x.lines;
     good = x.good;
   }
 
-  two-lines : (w : ℕ) (rest ms : List Line) (ys : List ℕ) → a % 2 ≡ 0 → w % 2 ≡ 0 → a ≤ w → ls ≡ line_at k w ∷ line_at k (w + 1) ∷ rest
-      → rest ≡ wiresFrom (line_at k) ((w + 2) / 2) ys ++ Fixed k ∷ ms → ls ≡ wiresFrom (line_at k) (a / 2) (replicate ((w - a) / 2) 5 ++ 4 ∷ ys) ++ Fixed k ∷ ms
-  unfolding wiresFrom
-  two-lines w rest ms ys even e h is q =
+  two_lines : (w : ℕ) (rest ms : List Line) (ys : List ℕ) → a % 2 ≡ 0 → w % 2 ≡ 0 → a ≤ w → ls ≡ line_at k w ∷ line_at k (w + 1) ∷ rest
+      → rest ≡ wires_from (line_at k) ((w + 2) / 2) ys ++ Fixed k ∷ ms → ls ≡ wires_from (line_at k) (a / 2) (replicate ((w - a) / 2) 5 ++ 4 ∷ ys) ++ Fixed k ∷ ms
+  unfolding wires_from
+  two_lines w rest ms ys even e h is q =
       let i : a / 2 + (w - a) / 2 ≡ w / 2 = omega arith in
       let j : 2 * (w / 2) ≡ w = omega arith in
       let l : w / 2 + 1 ≡ (w + 2) / 2 = omega arith in
-      rw (wires-skip (line_at k) ((w - a) / 2) (a / 2) (4 ∷ ys), i, j, l) (is ∙ ap (λ (z : List Line). line_at k w ∷ line_at k (w + 1) ∷ z) q)
+      rw (wires_skip (line_at k) ((w - a) / 2) (a / 2) (4 ∷ ys), i, j, l) (is ∙ ap (λ (z : List Line). line_at k w ∷ line_at k (w + 1) ∷ z) q)
 
-  two-wired : (pins : List ℕ) (t : Two k a pins ls) → a % 2 ≡ 0 → (k ≡ 5 → pins ≡ all) → Wired k (t.w + 2) all t.rest → Wired k a all ls
-  two-wired pins t even q r =
+  two_wired : (pins : List ℕ) (t : Two k a pins ls) → a % 2 ≡ 0 → (k ≡ 5 → pins ≡ all) → Wired k (t.w + 2) all t.rest → Wired k a all ls
+  two_wired pins t even q r =
       let w = t.w in
       let n = (w - a) / 2 in
       let ys : List ℕ = 4 ∷ r.xs in
@@ -229,9 +229,9 @@ module _ (k a : ℕ) (all : List ℕ) (ls : List Line) where
         xs = replicate n 5 ++ ys;
         rest = r.rest;
         long = omega (arith, length-append (replicate n 5) ys, length-replicate {A = ℕ} n 5, r.long, t.even, t.above);
-        fresh = fresh-skip n ys (omega arith, r.fresh);
-        fine = λ f. fine-skip (Declared all) n (a / 2) ys (λ m. subst (λ (l : List ℕ). get_or l (a / 2 + n) 0 ≡ 4) (q f) (subst (λ (x : ℕ). get_or pins x 0 ≡ 4) i (t.known f)), subst (λ (x : ℕ). Fine (Declared all) x r.xs) j (r.fine f));
-        lines = two-lines w t.rest r.rest r.xs even t.even t.above t.lines r.lines;
+        fresh = fresh_skip n ys (omega arith, r.fresh);
+        fine = λ f. fine_skip (Declared all) n (a / 2) ys (λ m. subst (λ (l : List ℕ). get_or l (a / 2 + n) 0 ≡ 4) (q f) (subst (λ (x : ℕ). get_or pins x 0 ≡ 4) i (t.known f)), subst (λ (x : ℕ). Fine (Declared all) x r.xs) j (r.fine f));
+        lines = two_lines w t.rest r.rest r.xs even t.even t.above t.lines r.lines;
         good = r.good;
       }
 
@@ -245,27 +245,27 @@ collect (suc n) k a all pins ls m s even most q g h = by (step k a pins ls s eve
     by : End k a ls ⊎ Two k a pins ls
         → ((a : ℕ) (pins : List ℕ) (ls : List Line) → length ls ≤ n → k < 6 → a % 2 ≡ 0 → a ≤ 40 → (k ≡ 5 → pins ≡ all) → GoodLines ls → Accepts (at k a 0 pins unchanged) ls → Wired k a all ls)
         → Wired k a all ls
-    by (inl x) ih = none-wired k a all ls x most
+    by (inl x) ih = none_wired k a all ls x most
     by (inr t) ih =
-        two-wired k a all ls pins t even q
+        two_wired k a all ls pins t even q
         (ih (t.w + 2) t.after t.rest (omega (arith, ap length t.lines)) s (omega (arith, t.even)) (omega (arith, t.even, t.below)) (λ f. t.stays f ∙ q f) t.good t.next)
 
-under-fine : (xs ys p : List ℕ) (e : ℕ) → length p ≡ e → Fine (Declared (p ++ ys)) e xs → Under xs ys
-under-fine [] ys p e l h = tt
-under-fine (x ∷ xs) [] p e l h = tt
-under-fine (x ∷ xs) (y ∷ ys) p e l h = (
+under_fine : (xs ys p : List ℕ) (e : ℕ) → length p ≡ e → Fine (Declared (p ++ ys)) e xs → Under xs ys
+under_fine [] ys p e l h = tt
+under_fine (x ∷ xs) [] p e l h = tt
+under_fine (x ∷ xs) (y ∷ ys) p e l h = (
   λ n. sym (get_or_at p y ys 0 e l) ∙ h.0 n,
-  under-fine xs ys (p ++ y ∷ []) (e + 1) (length-append p (y ∷ []) ∙ omega arith) (subst (λ (z : List ℕ). Fine (Declared z) (e + 1) xs) (sym (append_snoc p y ys)) h.1),
+  under_fine xs ys (p ++ y ∷ []) (e + 1) (length-append p (y ∷ []) ∙ omega arith) (subst (λ (z : List ℕ). Fine (Declared z) (e + 1) xs) (sym (append_snoc p y ys)) h.1),
 )
 
 -- ---- the whole
 
 pub regroup : (pins unknown : List ℕ) (ls : List Line)
-    → headerOf pins unknown ++ ls ≡ Fixed 0 ∷ Fixed 1 ∷ (wiresFrom Var 0 pins ++ Fixed 2 ∷ Fixed 3 ∷ Fixed 4 ∷ (wiresFrom Unknown 0 unknown ++ Fixed 5 ∷ ls))
+    → header_of pins unknown ++ ls ≡ Fixed 0 ∷ Fixed 1 ∷ (wires_from Var 0 pins ++ Fixed 2 ∷ Fixed 3 ∷ Fixed 4 ∷ (wires_from Unknown 0 unknown ++ Fixed 5 ∷ ls))
 regroup pins unknown ls =
     ap (λ (ms : List Line). Fixed 0 ∷ Fixed 1 ∷ ms)
-    (append_assoc (wiresFrom Var 0 pins) (Fixed 2 ∷ Fixed 3 ∷ Fixed 4 ∷ (wiresFrom Unknown 0 unknown ++ Fixed 5 ∷ [])) ls
-    ∙ ap (λ (ms : List Line). wiresFrom Var 0 pins ++ Fixed 2 ∷ Fixed 3 ∷ Fixed 4 ∷ ms) (append_assoc (wiresFrom Unknown 0 unknown) (Fixed 5 ∷ []) ls))
+    (append_assoc (wires_from Var 0 pins) (Fixed 2 ∷ Fixed 3 ∷ Fixed 4 ∷ (wires_from Unknown 0 unknown ++ Fixed 5 ∷ [])) ls
+    ∙ ap (λ (ms : List Line). wires_from Var 0 pins ++ Fixed 2 ∷ Fixed 3 ∷ Fixed 4 ∷ ms) (append_assoc (wires_from Unknown 0 unknown) (Fixed 5 ∷ []) ls))
 
 -- some lines, and then the `x` lines and the body
 pub record Tail (pins : List ℕ) (head : List Line → List Line) (ls : List Line) : Type 0 where
@@ -276,7 +276,7 @@ pub record Tail (pins : List ℕ) (head : List Line → List Line) (ls : List Li
   pub steps : List Step
   pub good : Good (2 ^ 64) 0 steps
   pub there : There pins steps
-  pub lines : ls ≡ head (wiresFrom Unknown 0 unknown ++ Fixed 5 ∷ bodyFrom false 0 pins steps)
+  pub lines : ls ≡ head (wires_from Unknown 0 unknown ++ Fixed 5 ∷ body_from false 0 pins steps)
 
 before : (pins : List ℕ) (f head : List Line → List Line) (ls rest : List Line) → ls ≡ f rest → Tail pins head rest → Tail pins (λ x. f (head x)) ls
 before pins f head ls rest e t = record {
@@ -291,15 +291,15 @@ before pins f head ls rest e t = record {
 }
 
 module _ (pins : List ℕ) (long : length pins ≡ 20) where
-  from-unknown : (ls : List Line) → Accepts (at 5 0 0 pins unchanged) ls → Wired 5 0 pins ls → Tail pins (λ x. x) ls
-  from-unknown ls h u = by (first u.rest pins long u.good passed)
+  from_unknown : (ls : List Line) → Accepts (at 5 0 0 pins unchanged) ls → Wired 5 0 pins ls → Tail pins (λ x. x) ls
+  from_unknown ls h u = by (first u.rest pins long u.good passed)
     where
       under : Under u.xs pins
-      under = under-fine u.xs pins [] 0 refl (u.fine refl)
+      under = under_fine u.xs pins [] 0 refl (u.fine refl)
 
       passed : Accepts (at 6 0 0 pins unchanged) u.rest
       passed =
-          by-run (at 5 0 0 pins unchanged) (at 6 0 0 pins unchanged) (wiresFrom Unknown 0 u.xs ++ Fixed 5 ∷ u.rest) u.rest
+          by_run (at 5 0 0 pins unchanged) (at 6 0 0 pins unchanged) (wires_from Unknown 0 u.xs ++ Fixed 5 ∷ u.rest) u.rest
           (unknowns u.xs pins [] 0 0 u.rest refl refl (omega arith) (omega (arith, u.long)) under) (subst (Accepts (at 5 0 0 pins unchanged)) u.lines h)
 
       by : Body false 0 pins u.rest → Tail pins (λ x. x) ls
@@ -311,48 +311,48 @@ module _ (pins : List ℕ) (long : length pins ≡ 20) where
         steps = b.steps;
         good = b.good;
         there = b.there;
-        lines = u.lines ∙ ap (λ (ms : List Line). wiresFrom Unknown 0 u.xs ++ Fixed 5 ∷ ms) b.lines;
+        lines = u.lines ∙ ap (λ (ms : List Line). wires_from Unknown 0 u.xs ++ Fixed 5 ∷ ms) b.lines;
       }
 
-  from-5 : (ls : List Line) → GoodLines ls → Accepts (at 5 0 0 pins unchanged) ls → Tail pins (λ x. x) ls
-  from-5 ls g h = from-unknown ls h (collect (length ls) 5 0 pins pins ls (le_refl (length ls)) (omega arith) refl (omega arith) (λ _. refl) g h)
+  from_5 : (ls : List Line) → GoodLines ls → Accepts (at 5 0 0 pins unchanged) ls → Tail pins (λ x. x) ls
+  from_5 ls g h = from_unknown ls h (collect (length ls) 5 0 pins pins ls (le_refl (length ls)) (omega arith) refl (omega arith) (λ _. refl) g h)
 
-  from-4 : (ls : List Line) → Accepts (at 4 0 0 pins unchanged) ls → End 4 0 ls → Tail pins (λ x. Fixed 4 ∷ x) ls
+  from_4 : (ls : List Line) → Accepts (at 4 0 0 pins unchanged) ls → End 4 0 ls → Tail pins (λ x. Fixed 4 ∷ x) ls
   unfolding turn_of
-  from-4 ls h e = before pins (λ x. Fixed 4 ∷ x) (λ x. x) ls e.rest e.lines (from-5 e.rest e.good (subst (Accepts (at 4 0 0 pins unchanged)) e.lines h))
+  from_4 ls h e = before pins (λ x. Fixed 4 ∷ x) (λ x. x) ls e.rest e.lines (from_5 e.rest e.good (subst (Accepts (at 4 0 0 pins unchanged)) e.lines h))
 
-  from-3 : (ls : List Line) → Accepts (at 3 0 0 pins unchanged) ls → End 3 0 ls → Tail pins (λ x. Fixed 3 ∷ Fixed 4 ∷ x) ls
+  from_3 : (ls : List Line) → Accepts (at 3 0 0 pins unchanged) ls → End 3 0 ls → Tail pins (λ x. Fixed 3 ∷ Fixed 4 ∷ x) ls
   unfolding turn_of
-  from-3 ls h e = before pins (λ x. Fixed 3 ∷ x) (λ x. Fixed 4 ∷ x) ls e.rest e.lines (on (subst (Accepts (at 3 0 0 pins unchanged)) e.lines h))
+  from_3 ls h e = before pins (λ x. Fixed 3 ∷ x) (λ x. Fixed 4 ∷ x) ls e.rest e.lines (on (subst (Accepts (at 3 0 0 pins unchanged)) e.lines h))
     where
       on : Accepts (at 4 0 0 pins unchanged) e.rest → Tail pins (λ x. Fixed 4 ∷ x) e.rest
-      on a = from-4 e.rest a (fixed-next 4 pins e.rest (omega arith) (λ e. omega arith) (λ e. omega arith) e.good a)
+      on a = from_4 e.rest a (fixed_next 4 pins e.rest (omega arith) (λ e. omega arith) (λ e. omega arith) e.good a)
 
 -- declared encoders, and then the rest
 pub record Dump (head : List Line → List Line) (ls : List Line) : Type 0 where
   pub pins : List ℕ
   pub long : length pins ≡ 20
   pub fresh : Fresh pins
-  pub tail : Tail pins (λ x. head (wiresFrom Var 0 pins ++ Fixed 2 ∷ Fixed 3 ∷ Fixed 4 ∷ x)) ls
+  pub tail : Tail pins (λ x. head (wires_from Var 0 pins ++ Fixed 2 ∷ Fixed 3 ∷ Fixed 4 ∷ x)) ls
 
-under-head : (f head : List Line → List Line) (ls rest : List Line) → ls ≡ f rest → Dump head rest → Dump (λ x. f (head x)) ls
-under-head f head ls rest e d = record {
+under_head : (f head : List Line → List Line) (ls rest : List Line) → ls ≡ f rest → Dump head rest → Dump (λ x. f (head x)) ls
+under_head f head ls rest e d = record {
   pins = d.pins;
   long = d.long;
   fresh = d.fresh;
-  tail = before d.pins f (λ x. head (wiresFrom Var 0 d.pins ++ Fixed 2 ∷ Fixed 3 ∷ Fixed 4 ∷ x)) ls rest e d.tail;
+  tail = before d.pins f (λ x. head (wires_from Var 0 d.pins ++ Fixed 2 ∷ Fixed 3 ∷ Fixed 4 ∷ x)) ls rest e d.tail;
 }
 
 none : List ℕ
 none = replicate 20 5
 
-from-vars : (ls : List Line) → Accepts (at 2 0 0 none unchanged) ls → Wired 2 0 none ls → Dump (λ x. x) ls
+from_vars : (ls : List Line) → Accepts (at 2 0 0 none unchanged) ls → Wired 2 0 none ls → Dump (λ x. x) ls
 unfolding none
-from-vars ls h v = record {
+from_vars ls h v = record {
   pins = v.xs;
   long = long;
   fresh = v.fresh;
-  tail = before v.xs (λ x. wiresFrom Var 0 v.xs ++ Fixed 2 ∷ x) (λ x. Fixed 3 ∷ Fixed 4 ∷ x) ls v.rest v.lines (on passed);
+  tail = before v.xs (λ x. wires_from Var 0 v.xs ++ Fixed 2 ∷ x) (λ x. Fixed 3 ∷ Fixed 4 ∷ x) ls v.rest v.lines (on passed);
 }
   where
     long : length v.xs ≡ 20
@@ -360,29 +360,29 @@ from-vars ls h v = record {
 
     passed : Accepts (at 3 0 0 v.xs unchanged) v.rest
     passed =
-        by-run (at 2 0 0 none unchanged) (at 3 0 0 v.xs unchanged) (wiresFrom Var 0 v.xs ++ Fixed 2 ∷ v.rest) v.rest
+        by_run (at 2 0 0 none unchanged) (at 3 0 0 v.xs unchanged) (wires_from Var 0 v.xs ++ Fixed 2 ∷ v.rest) v.rest
         (rw long at (vars v.xs [] 0 0 v.rest refl refl (omega arith) v.fresh)) (subst (Accepts (at 2 0 0 none unchanged)) v.lines h)
 
     on : Accepts (at 3 0 0 v.xs unchanged) v.rest → Tail v.xs (λ x. Fixed 3 ∷ Fixed 4 ∷ x) v.rest
-    on a = from-3 v.xs long v.rest a (fixed-next 3 v.xs v.rest (omega arith) (λ e. omega arith) (λ e. omega arith) v.good a)
+    on a = from_3 v.xs long v.rest a (fixed_next 3 v.xs v.rest (omega arith) (λ e. omega arith) (λ e. omega arith) v.good a)
 
-from-1 : (ls : List Line) → Accepts (at 1 0 0 none unchanged) ls → End 1 0 ls → Dump (λ x. Fixed 1 ∷ x) ls
+from_1 : (ls : List Line) → Accepts (at 1 0 0 none unchanged) ls → End 1 0 ls → Dump (λ x. Fixed 1 ∷ x) ls
 unfolding turn_of none
-from-1 ls h e = under-head (λ x. Fixed 1 ∷ x) (λ x. x) ls e.rest e.lines (on (subst (Accepts (at 1 0 0 none unchanged)) e.lines h))
+from_1 ls h e = under_head (λ x. Fixed 1 ∷ x) (λ x. x) ls e.rest e.lines (on (subst (Accepts (at 1 0 0 none unchanged)) e.lines h))
   where
     on : Accepts (at 2 0 0 none unchanged) e.rest → Dump (λ x. x) e.rest
-    on a = from-vars e.rest a (collect (length e.rest) 2 0 none none e.rest (le_refl (length e.rest)) (omega arith) refl (omega arith) (λ _. refl) e.good a)
+    on a = from_vars e.rest a (collect (length e.rest) 2 0 none none e.rest (le_refl (length e.rest)) (omega arith) refl (omega arith) (λ _. refl) e.good a)
 
-from-0 : (ls : List Line) → Accepts opening ls → End 0 0 ls → Dump (λ x. Fixed 0 ∷ Fixed 1 ∷ x) ls
+from_0 : (ls : List Line) → Accepts opening ls → End 0 0 ls → Dump (λ x. Fixed 0 ∷ Fixed 1 ∷ x) ls
 unfolding turn_of none
-from-0 ls h e = under-head (λ x. Fixed 0 ∷ x) (λ x. Fixed 1 ∷ x) ls e.rest e.lines (on (subst (Accepts opening) e.lines h))
+from_0 ls h e = under_head (λ x. Fixed 0 ∷ x) (λ x. Fixed 1 ∷ x) ls e.rest e.lines (on (subst (Accepts opening) e.lines h))
   where
     on : Accepts (at 1 0 0 none unchanged) e.rest → Dump (λ x. Fixed 1 ∷ x) e.rest
-    on a = from-1 e.rest a (fixed-next 1 none e.rest (omega arith) (λ e. omega arith) (λ e. omega arith) e.good a)
+    on a = from_1 e.rest a (fixed_next 1 none e.rest (omega arith) (λ e. omega arith) (λ e. omega arith) e.good a)
 
-pub dump-of : (ls : List Line) → GoodLines ls → Accepts opening ls → Dump (λ x. Fixed 0 ∷ Fixed 1 ∷ x) ls
-dump-of ls g h = from-0 ls h (fixed-next 0 (replicate 20 5) ls (omega arith) (λ e. omega arith) (λ e. omega arith) g h)
+pub dump_of_lem : (ls : List Line) → GoodLines ls → Accepts opening ls → Dump (λ x. Fixed 0 ∷ Fixed 1 ∷ x) ls
+dump_of_lem ls g h = from_0 ls h (fixed_next 0 (replicate 20 5) ls (omega arith) (λ e. omega arith) (λ e. omega arith) g h)
 
 -- the lines are a header's and a body's
-pub dump-lines : (ls : List Line) (d : Dump (λ x. Fixed 0 ∷ Fixed 1 ∷ x) ls) → ls ≡ headerOf d.pins d.tail.unknown ++ bodyFrom false 0 d.pins d.tail.steps
-dump-lines ls d = d.tail.lines ∙ sym (regroup d.pins d.tail.unknown (bodyFrom false 0 d.pins d.tail.steps))
+pub dump_lines : (ls : List Line) (d : Dump (λ x. Fixed 0 ∷ Fixed 1 ∷ x) ls) → ls ≡ header_of d.pins d.tail.unknown ++ body_from false 0 d.pins d.tail.steps
+dump_lines ls d = d.tail.lines ∙ sym (regroup d.pins d.tail.unknown (body_from false 0 d.pins d.tail.steps))

@@ -5,24 +5,24 @@ use Prim.Native.Nat.{ℕ}
 use Rattle.vcd.specs.declared.Step.{Step}
 use Rattle.vcd.specs.declared.Step.TheVariants.{Wait, Pins}
 use Rattle.vcd.specs.declared.Line.TheVariants.{Fixed, Var, Unknown, Time, Change}
-use Rattle.vcd.specs.Dump.{declared, wiresFrom, changesOf, timed, bodyFrom, dumpOf}
-use Rattle.vcd.specs.Entries.{Entry, entries_at, entriesFrom, entriesIn}
+use Rattle.vcd.specs.Dump.{declared, wires_from, changes_of, timed, body_from, dump_of}
+use Rattle.vcd.specs.Entries.{Entry, entries_at, entries_from, entries_in}
 
 -- encoder 10 is encoder 0 of bank 1
 abbrev pub steps : List Step
 steps = Wait 4 ∷ Pins 3 0 ∷ Wait 4 ∷ Pins 3 1 ∷ Pins 3 3 ∷ Pins 10 2 ∷ Wait 0 ∷ Pins 10 2 ∷ Wait 4 ∷ Pins 3 3 ∷ Wait 4 ∷ Pins 3 0 ∷ Wait 1_000 ∷ []
 
-pub page : dumpOf steps
+pub page : dump_of steps
     ≡ Fixed 0 ∷ Fixed 1 ∷ Var 6 ∷ Var 7 ∷ Var 20 ∷ Var 21 ∷ Fixed 2 ∷ Fixed 3 ∷ Fixed 4 ∷ Unknown 6 ∷ Unknown 7 ∷ Unknown 20 ∷ Unknown 21 ∷ Fixed 5
     ∷ Time 100 ∷ Change 6 0 ∷ Change 7 0
     ∷ Time 200 ∷ Change 6 1 ∷ Change 7 1 ∷ Change 20 0 ∷ Change 21 1
     ∷ Time 400 ∷ Change 6 0 ∷ Change 7 0 ∷ []
-unfolding dumpOf declared wiresFrom changesOf timed bodyFrom
+unfolding dump_of declared wires_from changes_of timed body_from
 page = refl
 
 abbrev entry : ℕ → ℕ → ℕ → Entry
 entry time encoder pins = record { time = time; encoder = encoder; pins = pins }
 
-pub page-entries : entriesIn steps ≡ entry 100 3 0 ∷ entry 200 3 3 ∷ entry 200 10 2 ∷ entry 400 3 0 ∷ []
-unfolding declared entries_at entriesFrom
-page-entries = refl
+pub page_entries : entries_in steps ≡ entry 100 3 0 ∷ entry 200 3 3 ∷ entry 200 10 2 ∷ entry 400 3 0 ∷ []
+unfolding declared entries_at entries_from
+page_entries = refl

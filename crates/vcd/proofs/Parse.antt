@@ -10,25 +10,25 @@ use lib.ListN.{length, get_or}
 use lib.Seq.{append_snoc}
 use borrow.Author.Tests.{lt-ltb, ltb-true, ltb-false, leb-true, eqb-true, eqb-false, ne_eqb}
 use Rattle.laws.proofs.Truth.{both_true}
-use Rattle.decimal.specs.Decimal.{areDigits, valueFrom, decimalOf}
-use Rattle.decimal.specs.Digits.{digitsOf}
-use Rattle.decimal.proofs.Back.{digits-small, digits_more}
+use Rattle.decimal.specs.Decimal.{are_digits, value_from, decimal_of}
+use Rattle.decimal.specs.Digits.{digits_of}
+use Rattle.decimal.proofs.Back.{digits_small, digits_more}
 use Rattle.vcd.specs.declared.Line.{Line}
 use Rattle.vcd.specs.declared.Line.TheVariants.{Fixed, Var, Unknown, Time, Change, Other}
 use Rattle.vcd.specs.declared.Reader.{Reader}
-use Rattle.vcd.specs.Lines.{code_of, varOf, printOf, text_of}
-use Rattle.vcd.specs.How.{same, wireOf, varWith, fixed_at, head_of, number_of, timeOf, value_of, changeIn, line_of, lines_from, refused, follows, taken, turn_of, whole}
+use Rattle.vcd.specs.Lines.{code_of, var_of, print_of, text_of}
+use Rattle.vcd.specs.How.{same, wire_of, var_with, fixed_at, head_of, number_of, time_of, value_of, change_in, line_of, lines_from, refused, follows, taken, turn_of, whole}
 use Rattle.vcd.proofs.Print.{GoodLine, GoodLines}
 use Rattle.vcd.proofs.Heart.{at}
 
 -- ---- one line: it is no line of a dump, or it is one and these are its bytes
 
 abbrev pub Fair : List ℕ → Line → Type 0
-Fair s l = (l ≡ Other) ⊎ (GoodLine l × (printOf l ≡ s))
+Fair s l = (l ≡ Other) ⊎ (GoodLine l × (print_of l ≡ s))
 
-fair-if : (t : Bool) (s : List ℕ) (l m : Line) → (t ≡ true → Fair s l) → (t ≡ false → Fair s m) → Fair s (cond t l m)
-fair-if true s l m h k = h refl
-fair-if false s l m h k = k refl
+fair_if : (t : Bool) (s : List ℕ) (l m : Line) → (t ≡ true → Fair s l) → (t ≡ false → Fair s m) → Fair s (cond t l m)
+fair_if true s l m h k = h refl
+fair_if false s l m h k = k refl
 
 same_true : (s t : List ℕ) → same s t ≡ true → t ≡ s
 unfolding same
@@ -41,8 +41,8 @@ same_true (a ∷ s) (b ∷ t) e =
     let r = same_true s t q.1 in
     cc
 
-code-forth : (c : ℕ) → wireOf c < 40 → code_of (wireOf c) ≡ c
-code-forth c = go (ltb c 65) (ltb c 85) (ltb c 97) (ltb c 117) refl refl refl refl
+code_forth : (c : ℕ) → wire_of c < 40 → code_of (wire_of c) ≡ c
+code_forth c = go (ltb c 65) (ltb c 85) (ltb c 97) (ltb c 117) refl refl refl refl
   where
     go : (x y z u : Bool) → ltb c 65 ≡ x → ltb c 85 ≡ y → ltb c 97 ≡ z → ltb c 117 ≡ u
         → cond x 40 (cond y (c - 65) (cond z 40 (cond u (c - 77) 40))) < 40 → code_of (cond x 40 (cond y (c - 65) (cond z 40 (cond u (c - 77) 40)))) ≡ c
@@ -52,95 +52,95 @@ code-forth c = go (ltb c 65) (ltb c 85) (ltb c 97) (ltb c 117) refl refl refl re
     go false false false true a b d e h = omega (arith, ltb-false c 97 d, ltb-true c 117 e)
     go false false false false a b d e h = absurd (omega arith)
 
-fair-var : (s : List ℕ) (w : ℕ) → Fair s (varWith s w)
-unfolding printOf
-fair-var s w =
-    fair-if (ltb w 40) s (cond (same s (varOf w)) (Var w) Other) Other
-    (λ h. fair-if (same s (varOf w)) s (Var w) Other (λ e. inr (ltb-true w 40 h, same_true s (varOf w) e)) (λ e. inl refl)) (λ h. inl refl)
+fair_var : (s : List ℕ) (w : ℕ) → Fair s (var_with s w)
+unfolding print_of
+fair_var s w =
+    fair_if (ltb w 40) s (cond (same s (var_of w)) (Var w) Other) Other
+    (λ h. fair_if (same s (var_of w)) s (Var w) Other (λ e. inr (ltb-true w 40 h, same_true s (var_of w) e)) (λ e. inl refl)) (λ h. inl refl)
 
-fair-head : (s : List ℕ) → Fair s (head_of s)
-unfolding head_of printOf
-fair-head s =
-    fair-if (same s (fixed_at 0)) s (Fixed 0) _ (λ e. inr (omega arith, same_true s (fixed_at 0) e))
-    (λ _. fair-if (same s (fixed_at 1)) s (Fixed 1) _ (λ e. inr (omega arith, same_true s (fixed_at 1) e))
-    (λ _. fair-if (same s (fixed_at 2)) s (Fixed 2) _ (λ e. inr (omega arith, same_true s (fixed_at 2) e))
-    (λ _. fair-if (same s (fixed_at 3)) s (Fixed 3) _ (λ e. inr (omega arith, same_true s (fixed_at 3) e))
-    (λ _. fair-if (same s (fixed_at 4)) s (Fixed 4) _ (λ e. inr (omega arith, same_true s (fixed_at 4) e))
-    (λ _. fair-if (same s (fixed_at 5)) s (Fixed 5) _ (λ e. inr (omega arith, same_true s (fixed_at 5) e)) (λ _. fair-var s (wireOf (get_or s 12 0))))))))
+fair_head : (s : List ℕ) → Fair s (head_of s)
+unfolding head_of print_of
+fair_head s =
+    fair_if (same s (fixed_at 0)) s (Fixed 0) _ (λ e. inr (omega arith, same_true s (fixed_at 0) e))
+    (λ _. fair_if (same s (fixed_at 1)) s (Fixed 1) _ (λ e. inr (omega arith, same_true s (fixed_at 1) e))
+    (λ _. fair_if (same s (fixed_at 2)) s (Fixed 2) _ (λ e. inr (omega arith, same_true s (fixed_at 2) e))
+    (λ _. fair_if (same s (fixed_at 3)) s (Fixed 3) _ (λ e. inr (omega arith, same_true s (fixed_at 3) e))
+    (λ _. fair_if (same s (fixed_at 4)) s (Fixed 4) _ (λ e. inr (omega arith, same_true s (fixed_at 4) e))
+    (λ _. fair_if (same s (fixed_at 5)) s (Fixed 5) _ (λ e. inr (omega arith, same_true s (fixed_at 5) e)) (λ _. fair_var s (wire_of (get_or s 12 0))))))))
 
 -- digits that follow a number's
-digits-on : (bs : List ℕ) (v : ℕ) → 0 < v → areDigits bs ≡ true → digitsOf (valueFrom v bs) ≡ digitsOf v ++ bs
-digits-on [] v h e = sym (append-nil (digitsOf v))
-digits-on (b ∷ bs) v h e =
-    let q = both_true (leb 48 b && leb b 57) (areDigits bs) e in
+digits_on : (bs : List ℕ) (v : ℕ) → 0 < v → are_digits bs ≡ true → digits_of (value_from v bs) ≡ digits_of v ++ bs
+digits_on [] v h e = sym (append-nil (digits_of v))
+digits_on (b ∷ bs) v h e =
+    let q = both_true (leb 48 b && leb b 57) (are_digits bs) e in
     let r = both_true (leb 48 b) (leb b 57) q.0 in
     let l = leb-true 48 b r.0 in
     let m = leb-true b 57 r.1 in
     let n = 10 * v + (b - 48) in
     let i : n / 10 ≡ v = omega arith in
     let j : 48 + n % 10 ≡ b = omega arith in
-    let k : digitsOf n ≡ digitsOf v ++ b ∷ [] = rw (digits_more n (omega arith), i, j) in
-    digits-on bs n (omega arith) q.1
+    let k : digits_of n ≡ digits_of v ++ b ∷ [] = rw (digits_more n (omega arith), i, j) in
+    digits_on bs n (omega arith) q.1
     ∙ ap (λ (s : List ℕ). s ++ bs) k
-    ∙ append_snoc (digitsOf v) b bs
+    ∙ append_snoc (digits_of v) b bs
 
-digits-forth : (d : List ℕ) → 0 < length d → areDigits d ≡ true → eqb (get_or d 0 0) 48 && ltb 2 (suc (length d)) ≡ false → digitsOf (valueFrom 0 d) ≡ d
-digits-forth [] h e z = absurd (omega arith)
-digits-forth (b ∷ bs) h e z =
-    let q = both_true (leb 48 b && leb b 57) (areDigits bs) e in
+digits_forth : (d : List ℕ) → 0 < length d → are_digits d ≡ true → eqb (get_or d 0 0) 48 && ltb 2 (suc (length d)) ≡ false → digits_of (value_from 0 d) ≡ d
+digits_forth [] h e z = absurd (omega arith)
+digits_forth (b ∷ bs) h e z =
+    let q = both_true (leb 48 b && leb b 57) (are_digits bs) e in
     let r = both_true (leb 48 b) (leb b 57) q.0 in
     let l = leb-true 48 b r.0 in
     let m = leb-true b 57 r.1 in
-    let one : digitsOf (b - 48) ≡ b ∷ [] = digits-small (b - 48) (omega arith) ∙ ap (λ (k : ℕ). k ∷ []) (omega arith) in
+    let one : digits_of (b - 48) ≡ b ∷ [] = digits_small (b - 48) (omega arith) ∙ ap (λ (k : ℕ). k ∷ []) (omega arith) in
     let v : 10 * 0 + (b - 48) ≡ b - 48 = omega arith in
-    ap (λ (k : ℕ). digitsOf (valueFrom k bs)) v ∙ go bs q.1 z one l
+    ap (λ (k : ℕ). digits_of (value_from k bs)) v ∙ go bs q.1 z one l
   where
-    go : (bs : List ℕ) → areDigits bs ≡ true → eqb b 48 && ltb 2 (suc (suc (length bs))) ≡ false → digitsOf (b - 48) ≡ b ∷ [] → 48 ≤ b → digitsOf (valueFrom (b - 48) bs) ≡ b ∷ bs
+    go : (bs : List ℕ) → are_digits bs ≡ true → eqb b 48 && ltb 2 (suc (suc (length bs))) ≡ false → digits_of (b - 48) ≡ b ∷ [] → 48 ≤ b → digits_of (value_from (b - 48) bs) ≡ b ∷ bs
     go [] e z one l = one
     go (c ∷ bs) e z one l = by (eqb b 48) refl (rw (lt-ltb 2 (suc (suc (suc (length bs)))) (omega arith)) at z)
       where
-        by : (t : Bool) → eqb b 48 ≡ t → t && true ≡ false → digitsOf (valueFrom (b - 48) (c ∷ bs)) ≡ b ∷ c ∷ bs
+        by : (t : Bool) → eqb b 48 ≡ t → t && true ≡ false → digits_of (value_from (b - 48) (c ∷ bs)) ≡ b ∷ c ∷ bs
         by true q z = absurd (false≢true (sym z))
-        by false q z = let n = eqb-false b 48 q in digits-on (c ∷ bs) (b - 48) (omega arith) e ∙ ap (λ (s : List ℕ). s ++ c ∷ bs) one
+        by false q z = let n = eqb-false b 48 q in digits_on (c ∷ bs) (b - 48) (omega arith) e ∙ ap (λ (s : List ℕ). s ++ c ∷ bs) one
 
-fair-time : (d : List ℕ) → Fair (35 ∷ d) (timeOf (35 ∷ d))
-unfolding timeOf printOf
-fair-time d = fair-if (eqb (get_or d 0 0) 48 && ltb 2 (suc (length d))) (35 ∷ d) Other (number_of (decimalOf d)) (λ e. inl refl) (λ z. by (ltb 0 (length d) && areDigits d && ltb (valueFrom 0 d) (2 ^ 64)) refl z)
+fair_time : (d : List ℕ) → Fair (35 ∷ d) (time_of (35 ∷ d))
+unfolding time_of print_of
+fair_time d = fair_if (eqb (get_or d 0 0) 48 && ltb 2 (suc (length d))) (35 ∷ d) Other (number_of (decimal_of d)) (λ e. inl refl) (λ z. by (ltb 0 (length d) && are_digits d && ltb (value_from 0 d) (2 ^ 64)) refl z)
   where
-    by : (t : Bool) → ltb 0 (length d) && areDigits d && ltb (valueFrom 0 d) (2 ^ 64) ≡ t → eqb (get_or d 0 0) 48 && ltb 2 (suc (length d)) ≡ false → Fair (35 ∷ d) (number_of (decimalOf d))
+    by : (t : Bool) → ltb 0 (length d) && are_digits d && ltb (value_from 0 d) (2 ^ 64) ≡ t → eqb (get_or d 0 0) 48 && ltb 2 (suc (length d)) ≡ false → Fair (35 ∷ d) (number_of (decimal_of d))
     by true q z =
         let a = both_true _ _ q in
-        let b = both_true (ltb 0 (length d)) (areDigits d) a.0 in
-        rw q (inr (ltb-true (valueFrom 0 d) (2 ^ 64) a.1, ap (λ (s : List ℕ). 35 ∷ s) (digits-forth d (ltb-true 0 (length d) b.0) b.1 z)))
+        let b = both_true (ltb 0 (length d)) (are_digits d) a.0 in
+        rw q (inr (ltb-true (value_from 0 d) (2 ^ 64) a.1, ap (λ (s : List ℕ). 35 ∷ s) (digits_forth d (ltb-true 0 (length d) b.0) b.1 z)))
     by false q z = rw q (inl refl)
 
-fair-value : (b c : ℕ) → Fair (b ∷ c ∷ []) (value_of b (wireOf c))
-unfolding printOf
-fair-value b c =
-    fair-if (ltb w 40) s _ Other
-    (λ e. let l = ltb-true w 40 e in let k = code-forth c l in
-    fair-if (eqb b 120) s (Unknown w) _ (λ q. inr (l, rw (eqb-true b 120 q, k)))
-    (λ _. fair-if (eqb b 48) s (Change w 0) _ (λ q. inr ((l, omega arith), rw (eqb-true b 48 q, k)))
-    (λ _. fair-if (eqb b 49) s (Change w 1) Other (λ q. inr ((l, omega arith), rw (eqb-true b 49 q, k))) (λ _. inl refl))))
+fair_value : (b c : ℕ) → Fair (b ∷ c ∷ []) (value_of b (wire_of c))
+unfolding print_of
+fair_value b c =
+    fair_if (ltb w 40) s _ Other
+    (λ e. let l = ltb-true w 40 e in let k = code_forth c l in
+    fair_if (eqb b 120) s (Unknown w) _ (λ q. inr (l, rw (eqb-true b 120 q, k)))
+    (λ _. fair_if (eqb b 48) s (Change w 0) _ (λ q. inr ((l, omega arith), rw (eqb-true b 48 q, k)))
+    (λ _. fair_if (eqb b 49) s (Change w 1) Other (λ q. inr ((l, omega arith), rw (eqb-true b 49 q, k))) (λ _. inl refl))))
     (λ e. inl refl)
   where
     w : ℕ
-    w = wireOf c
+    w = wire_of c
 
     s : List ℕ
     s = b ∷ c ∷ []
 
-fair-change : (s : List ℕ) → Fair s (changeIn s)
-unfolding changeIn
-fair-change [] = inl refl
-fair-change (a ∷ []) = inl refl
-fair-change (a ∷ b ∷ []) = fair-value a b
-fair-change (a ∷ b ∷ c ∷ s) = inl (rw (ne_eqb (suc (suc (suc (length s)))) 2 (omega arith)))
+fair_change : (s : List ℕ) → Fair s (change_in s)
+unfolding change_in
+fair_change [] = inl refl
+fair_change (a ∷ []) = inl refl
+fair_change (a ∷ b ∷ []) = fair_value a b
+fair_change (a ∷ b ∷ c ∷ s) = inl (rw (ne_eqb (suc (suc (suc (length s)))) 2 (omega arith)))
 
-pub line-forth : (s : List ℕ) → Fair s (line_of s)
-unfolding line_of changeIn
-line-forth [] = inl refl
-line-forth (a ∷ s) = fair-if (eqb a 35) (a ∷ s) _ _ (λ e. subst (λ (b : ℕ). Fair (b ∷ s) (timeOf (b ∷ s))) (sym (eqb-true a 35 e)) (fair-time s)) (λ _. fair-if (eqb a 36) (a ∷ s) _ _ (λ _. fair-head (a ∷ s)) (λ _. fair-change (a ∷ s)))
+pub line_forth : (s : List ℕ) → Fair s (line_of s)
+unfolding line_of change_in
+line_forth [] = inl refl
+line_forth (a ∷ s) = fair_if (eqb a 35) (a ∷ s) _ _ (λ e. subst (λ (b : ℕ). Fair (b ∷ s) (time_of (b ∷ s))) (sym (eqb-true a 35 e)) (fair_time s)) (λ _. fair_if (eqb a 36) (a ∷ s) _ _ (λ _. fair_head (a ∷ s)) (λ _. fair_change (a ∷ s)))
 
 -- ---- who has refused refuses
 
@@ -171,41 +171,41 @@ module _ (ph awaited now : ℕ) (pins ch : List ℕ) (ls : List Line) where
   abbrev here : Reader
   here = at ph awaited now pins ch
 
-  pub fixed-taken : (k : ℕ) → Accepts here (Fixed k ∷ ls) → (ph ≡ k) × (awaited % 2 ≡ 0)
+  pub fixed_taken : (k : ℕ) → Accepts here (Fixed k ∷ ls) → (ph ≡ k) × (awaited % 2 ≡ 0)
   unfolding turn_of
-  fixed-taken k h =
+  fixed_taken k h =
       let q = both_true (eqb ph k) (ltb k 6 && eqb (awaited % 2) 0) (must _ here _ ls h) in
       (eqb-true ph k q.0, eqb-true (awaited % 2) 0 (both_true (ltb k 6) (eqb (awaited % 2) 0) q.1).1)
 
-  pub var-taken : (w : ℕ) → Accepts here (Var w ∷ ls) → (ph ≡ 2) × (follows awaited w ≡ true)
+  pub var_taken : (w : ℕ) → Accepts here (Var w ∷ ls) → (ph ≡ 2) × (follows awaited w ≡ true)
   unfolding turn_of
-  var-taken w h = let q = both_true (eqb ph 2) (follows awaited w) (must _ here _ ls h) in (eqb-true ph 2 q.0, q.1)
+  var_taken w h = let q = both_true (eqb ph 2) (follows awaited w) (must _ here _ ls h) in (eqb-true ph 2 q.0, q.1)
 
-  pub unknown-taken : (w : ℕ) → Accepts here (Unknown w ∷ ls) → (ph ≡ 5) × (follows awaited w ≡ true) × (get_or pins (w / 2) 0 ≡ 4)
+  pub unknown_taken : (w : ℕ) → Accepts here (Unknown w ∷ ls) → (ph ≡ 5) × (follows awaited w ≡ true) × (get_or pins (w / 2) 0 ≡ 4)
   unfolding turn_of
-  unknown-taken w h =
+  unknown_taken w h =
       let q = both_true (eqb ph 5) (follows awaited w && eqb (get_or pins (w / 2) 0) 4) (must _ here _ ls h) in
       let r = both_true (follows awaited w) (eqb (get_or pins (w / 2) 0) 4) q.1 in
       (eqb-true ph 5 q.0, r.0, eqb-true (get_or pins (w / 2) 0) 4 r.1)
 
-  pub time-taken : (t : ℕ) → Accepts here (Time t ∷ ls) → (eqb ph 6 || (eqb ph 8 && ltb now t) ≡ true) × (awaited ≡ 0) × (t % 25 ≡ 0)
+  pub time_taken : (t : ℕ) → Accepts here (Time t ∷ ls) → (eqb ph 6 || (eqb ph 8 && ltb now t) ≡ true) × (awaited ≡ 0) × (t % 25 ≡ 0)
   unfolding turn_of
-  time-taken t h =
+  time_taken t h =
       let q = both_true (eqb ph 6 || (eqb ph 8 && ltb now t)) (eqb awaited 0 && eqb (t % 25) 0) (must _ here _ ls h) in
       let r = both_true (eqb awaited 0) (eqb (t % 25) 0) q.1 in
       (q.0, eqb-true awaited 0 r.0, eqb-true (t % 25) 0 r.1)
 
-  pub change-taken : (w b : ℕ) → Accepts here (Change w b ∷ ls) → (eqb ph 7 || eqb ph 8 ≡ true) × (taken awaited (get_or pins (w / 2) 0) w b ≡ true)
+  pub change_taken : (w b : ℕ) → Accepts here (Change w b ∷ ls) → (eqb ph 7 || eqb ph 8 ≡ true) × (taken awaited (get_or pins (w / 2) 0) w b ≡ true)
   unfolding turn_of
-  change-taken w b h = both_true (eqb ph 7 || eqb ph 8) (taken awaited (get_or pins (w / 2) 0) w b) (must _ here _ ls h)
+  change_taken w b h = both_true (eqb ph 7 || eqb ph 8) (taken awaited (get_or pins (w / 2) 0) w b) (must _ here _ ls h)
 
 -- ---- a text is that of its lines
 
-pub text-forth : (s line : List ℕ) (r : Reader) → Accepts r (lines_from line s) → GoodLines (lines_from line s) × (text_of (lines_from line s) ≡ line ++ s)
+pub text_forth : (s line : List ℕ) (r : Reader) → Accepts r (lines_from line s) → GoodLines (lines_from line s) × (text_of (lines_from line s) ≡ line ++ s)
 unfolding lines_from text_of turn_of
-text-forth [] [] r e = (tt, refl)
-text-forth [] (a ∷ line) r e = absurd (stuck [] r.awaited r.now r.pins r.changed (rw (ne_eqb (suc (length line)) 0 (omega arith)) at e))
-text-forth (b ∷ s) line r e = go (eqb b 10) refl e (λ q. text-forth s [] q) (text-forth s (line ++ b ∷ []) r)
+text_forth [] [] r e = (tt, refl)
+text_forth [] (a ∷ line) r e = absurd (stuck [] r.awaited r.now r.pins r.changed (rw (ne_eqb (suc (length line)) 0 (omega arith)) at e))
+text_forth (b ∷ s) line r e = go (eqb b 10) refl e (λ q. text_forth s [] q) (text_forth s (line ++ b ∷ []) r)
   where
     cut : (l : Line) → Fair line l → b ≡ 10 → Accepts r (l ∷ lines_from [] s) → ((q : Reader) → Accepts q (lines_from [] s) → GoodLines (lines_from [] s) × (text_of (lines_from [] s) ≡ s)) → GoodLines (l ∷ lines_from [] s) × (text_of (l ∷ lines_from [] s) ≡ line ++ b ∷ s)
     cut l (inl o) t e ih = absurd (stuck (lines_from [] s) r.awaited r.now r.pins r.changed (subst (λ (k : Line). Accepts r (k ∷ lines_from [] s)) o e))
@@ -215,5 +215,5 @@ text-forth (b ∷ s) line r e = go (eqb b 10) refl e (λ q. text-forth s [] q) (
         → ((q : Reader) → Accepts q (lines_from [] s) → GoodLines (lines_from [] s) × (text_of (lines_from [] s) ≡ s))
         → (Accepts r (lines_from (line ++ b ∷ []) s) → GoodLines (lines_from (line ++ b ∷ []) s) × (text_of (lines_from (line ++ b ∷ []) s) ≡ line ++ b ∷ [] ++ s))
         → GoodLines (cond t (line_of line ∷ lines_from [] s) (lines_from (line ++ b ∷ []) s)) × (text_of (cond t (line_of line ∷ lines_from [] s) (lines_from (line ++ b ∷ []) s)) ≡ line ++ b ∷ s)
-    go true q e ih jh = cut (line_of line) (line-forth line) (eqb-true b 10 q) e ih
+    go true q e ih jh = cut (line_of line) (line_forth line) (eqb-true b 10 q) e ih
     go false q e ih jh = let h = jh e in (h.0, h.1 ∙ append_snoc line b s)

@@ -8,13 +8,13 @@ use lib.Dec.{eqb, ltb, leb}
 use lib.ListN.{get_or}
 use lib.Seq.{append_snoc}
 use borrow.Author.Tests.{lt-ltb, le-ltb, eq-eqb, ne_eqb, leb-true, ltb-true, ltb-false}
-use Rattle.decimal.specs.Decimal.{areDigits}
-use Rattle.decimal.specs.Digits.{digitsOf}
-use Rattle.decimal.proofs.Back.{decimal-back, are-digits, first-digit, digits-small}
+use Rattle.decimal.specs.Decimal.{are_digits}
+use Rattle.decimal.specs.Digits.{digits_of}
+use Rattle.decimal.proofs.Back.{decimal_back, are_digits_lem, first_digit, digits_small}
 use Rattle.vcd.specs.declared.Line.{Line}
 use Rattle.vcd.specs.declared.Line.TheVariants.{Fixed, Var, Unknown, Time, Change, Other}
-use Rattle.vcd.specs.Lines.{fixedLines, code_of, varOf, printOf, text_of}
-use Rattle.vcd.specs.How.{same, wireOf, varWith, head_of, timeOf, value_of, changeIn, line_of, lines_from, lines_of}
+use Rattle.vcd.specs.Lines.{fixed_lines, code_of, var_of, print_of, text_of}
+use Rattle.vcd.specs.How.{same, wire_of, var_with, head_of, time_of, value_of, change_in, line_of, lines_from, lines_of}
 
 -- the lines that a dump can have
 abbrev pub GoodLine : Line → Type 0
@@ -36,10 +36,10 @@ unfolding same
 same_refl [] = refl
 same_refl (a ∷ s) = rw (eq-eqb a a refl) (same_refl s)
 
-pub wire-back : (w : ℕ) → w < 40 → wireOf (code_of w) ≡ w
-wire-back w h = by (ltb w 20) refl
+pub wire_back : (w : ℕ) → w < 40 → wire_of (code_of w) ≡ w
+wire_back w h = by (ltb w 20) refl
   where
-    by : (t : Bool) → ltb w 20 ≡ t → wireOf (code_of w) ≡ w
+    by : (t : Bool) → ltb w 20 ≡ t → wire_of (code_of w) ≡ w
     by true e =
         let l = ltb-true w 20 e in
         let c : code_of w ≡ 65 + w = omega arith in
@@ -49,42 +49,42 @@ wire-back w h = by (ltb w 20) refl
         let c : code_of w ≡ 77 + w = omega arith in
         rw (c, le-ltb (77 + w) 65 (omega arith), le-ltb (77 + w) 85 (omega arith), le-ltb (77 + w) 97 (omega arith), lt-ltb (77 + w) 117 (omega arith)) (omega arith)
 
-var-back : (w : ℕ) → w < 40 → varWith (varOf w) (wireOf (code_of w)) ≡ Var w
-var-back w h = rw (wire-back w h, lt-ltb w 40 h, same_refl (varOf w))
+var_back : (w : ℕ) → w < 40 → var_with (var_of w) (wire_of (code_of w)) ≡ Var w
+var_back w h = rw (wire_back w h, lt-ltb w 40 h, same_refl (var_of w))
 
-head-var : (w : ℕ) → head_of (varOf w) ≡ varWith (varOf w) (wireOf (code_of w))
-unfolding head_of same fixedLines varOf
-head-var w = refl
+head_var : (w : ℕ) → head_of (var_of w) ≡ var_with (var_of w) (wire_of (code_of w))
+unfolding head_of same fixed_lines var_of
+head_var w = refl
 
-change-back : (w b : ℕ) → w < 40 → b < 2 → value_of (48 + b) (wireOf (code_of w)) ≡ Change w b
-change-back w zero h l = rw (wire-back w h, lt-ltb w 40 h)
-change-back w (suc zero) h l = rw (wire-back w h, lt-ltb w 40 h)
-change-back w (suc (suc b)) h l = absurd (omega arith)
+change_back : (w b : ℕ) → w < 40 → b < 2 → value_of (48 + b) (wire_of (code_of w)) ≡ Change w b
+change_back w zero h l = rw (wire_back w h, lt-ltb w 40 h)
+change_back w (suc zero) h l = rw (wire_back w h, lt-ltb w 40 h)
+change_back w (suc (suc b)) h l = absurd (omega arith)
 
-unknown-back : (w : ℕ) → w < 40 → value_of 120 (wireOf (code_of w)) ≡ Unknown w
-unknown-back w h = rw (wire-back w h, lt-ltb w 40 h)
+unknown_back : (w : ℕ) → w < 40 → value_of 120 (wire_of (code_of w)) ≡ Unknown w
+unknown_back w h = rw (wire_back w h, lt-ltb w 40 h)
 
-time-back : (t : ℕ) → t < 2 ^ 64 → timeOf (35 ∷ digitsOf t) ≡ Time t
-unfolding timeOf
-time-back zero h = rw (digits-small 0 (omega arith))
-time-back (suc t) h =
-    let f = first-digit (suc t) (omega arith) in
-    rw (ne_eqb (get_or (digitsOf (suc t)) 0 0) 48 (omega arith), decimal-back (suc t) h)
+time_back : (t : ℕ) → t < 2 ^ 64 → time_of (35 ∷ digits_of t) ≡ Time t
+unfolding time_of
+time_back zero h = rw (digits_small 0 (omega arith))
+time_back (suc t) h =
+    let f = first_digit (suc t) (omega arith) in
+    rw (ne_eqb (get_or (digits_of (suc t)) 0 0) 48 (omega arith), decimal_back (suc t) h)
 
-pub line-back : (l : Line) → GoodLine l → line_of (printOf l) ≡ l
-unfolding line_of printOf head_of changeIn same fixedLines varOf
-line-back (Fixed zero) h = refl
-line-back (Fixed (suc zero)) h = refl
-line-back (Fixed (suc (suc zero))) h = refl
-line-back (Fixed (suc (suc (suc zero)))) h = refl
-line-back (Fixed (suc (suc (suc (suc zero))))) h = refl
-line-back (Fixed (suc (suc (suc (suc (suc zero)))))) h = refl
-line-back (Fixed (suc (suc (suc (suc (suc (suc k))))))) h = absurd (omega arith)
-line-back (Var w) h = var-back w h
-line-back (Unknown w) h = unknown-back w h
-line-back (Time t) h = time-back t h
-line-back (Change w b) h = rw (ne_eqb (48 + b) 35 (omega arith), ne_eqb (48 + b) 36 (omega arith)) (change-back w b h.0 h.1)
-line-back Other h = absurd h
+pub line_back : (l : Line) → GoodLine l → line_of (print_of l) ≡ l
+unfolding line_of print_of head_of change_in same fixed_lines var_of
+line_back (Fixed zero) h = refl
+line_back (Fixed (suc zero)) h = refl
+line_back (Fixed (suc (suc zero))) h = refl
+line_back (Fixed (suc (suc (suc zero)))) h = refl
+line_back (Fixed (suc (suc (suc (suc zero))))) h = refl
+line_back (Fixed (suc (suc (suc (suc (suc zero)))))) h = refl
+line_back (Fixed (suc (suc (suc (suc (suc (suc k))))))) h = absurd (omega arith)
+line_back (Var w) h = var_back w h
+line_back (Unknown w) h = unknown_back w h
+line_back (Time t) h = time_back t h
+line_back (Change w b) h = rw (ne_eqb (48 + b) 35 (omega arith), ne_eqb (48 + b) 36 (omega arith)) (change_back w b h.0 h.1)
+line_back Other h = absurd h
 
 -- ---- no line has a newline in it
 
@@ -92,30 +92,30 @@ pub unbroken : List ℕ → Bool
 unbroken [] = true
 unbroken (b ∷ s) = not (eqb b 10) && unbroken s
 
-digits-unbroken : (s : List ℕ) → areDigits s ≡ true → unbroken s ≡ true
+digits_unbroken : (s : List ℕ) → are_digits s ≡ true → unbroken s ≡ true
 unfolding unbroken
-digits-unbroken [] e = refl
-digits-unbroken (b ∷ s) e = go (leb 48 b) (leb b 57) refl e (λ e'. digits-unbroken s e')
+digits_unbroken [] e = refl
+digits_unbroken (b ∷ s) e = go (leb 48 b) (leb b 57) refl e (λ e'. digits_unbroken s e')
   where
-    go : (x y : Bool) → leb 48 b ≡ x → (x && y) && areDigits s ≡ true → (areDigits s ≡ true → unbroken s ≡ true) → not (eqb b 10) && unbroken s ≡ true
+    go : (x y : Bool) → leb 48 b ≡ x → (x && y) && are_digits s ≡ true → (are_digits s ≡ true → unbroken s ≡ true) → not (eqb b 10) && unbroken s ≡ true
     go true true p e ih = let l = leb-true 48 b p in rw (ne_eqb b 10 (omega arith)) (ih e)
     go true false p e ih = absurd (false≢true e)
     go false y p e ih = absurd (false≢true e)
 
-pub line-unbroken : (l : Line) → GoodLine l → unbroken (printOf l) ≡ true
-unfolding unbroken printOf fixedLines varOf
-line-unbroken (Fixed zero) h = refl
-line-unbroken (Fixed (suc zero)) h = refl
-line-unbroken (Fixed (suc (suc zero))) h = refl
-line-unbroken (Fixed (suc (suc (suc zero)))) h = refl
-line-unbroken (Fixed (suc (suc (suc (suc zero))))) h = refl
-line-unbroken (Fixed (suc (suc (suc (suc (suc zero)))))) h = refl
-line-unbroken (Fixed (suc (suc (suc (suc (suc (suc k))))))) h = absurd (omega arith)
-line-unbroken (Var w) h = rw (ne_eqb (code_of w) 10 (omega arith), ne_eqb (48 + w / 20) 10 (omega arith), ne_eqb (48 + w / 2 % 10) 10 (omega arith), ne_eqb (65 + w % 2) 10 (omega arith))
-line-unbroken (Unknown w) h = rw (ne_eqb (code_of w) 10 (omega arith))
-line-unbroken (Time t) h = digits-unbroken (digitsOf t) (are-digits t)
-line-unbroken (Change w b) h = rw (ne_eqb (48 + b) 10 (omega arith), ne_eqb (code_of w) 10 (omega arith))
-line-unbroken Other h = absurd h
+pub line_unbroken : (l : Line) → GoodLine l → unbroken (print_of l) ≡ true
+unfolding unbroken print_of fixed_lines var_of
+line_unbroken (Fixed zero) h = refl
+line_unbroken (Fixed (suc zero)) h = refl
+line_unbroken (Fixed (suc (suc zero))) h = refl
+line_unbroken (Fixed (suc (suc (suc zero)))) h = refl
+line_unbroken (Fixed (suc (suc (suc (suc zero))))) h = refl
+line_unbroken (Fixed (suc (suc (suc (suc (suc zero)))))) h = refl
+line_unbroken (Fixed (suc (suc (suc (suc (suc (suc k))))))) h = absurd (omega arith)
+line_unbroken (Var w) h = rw (ne_eqb (code_of w) 10 (omega arith), ne_eqb (48 + w / 20) 10 (omega arith), ne_eqb (48 + w / 2 % 10) 10 (omega arith), ne_eqb (65 + w % 2) 10 (omega arith))
+line_unbroken (Unknown w) h = rw (ne_eqb (code_of w) 10 (omega arith))
+line_unbroken (Time t) h = digits_unbroken (digits_of t) (are_digits_lem t)
+line_unbroken (Change w b) h = rw (ne_eqb (48 + b) 10 (omega arith), ne_eqb (code_of w) 10 (omega arith))
+line_unbroken Other h = absurd h
 
 -- ---- a text is its lines
 
@@ -129,7 +129,7 @@ cut_line line (b ∷ s) t e = go (eqb b 10) e (λ e'. cut_line (line ++ b ∷ []
     go true e ih = absurd (false≢true e)
     go false e ih = ih e ∙ rw append_snoc
 
-pub lines-back : (ls : List Line) → GoodLines ls → lines_of (text_of ls) ≡ ls
+pub lines_back : (ls : List Line) → GoodLines ls → lines_of (text_of ls) ≡ ls
 unfolding text_of lines_from
-lines-back [] h = refl
-lines-back (l ∷ ls) h = rw (cut_line [] (printOf l) (text_of ls) (line-unbroken l h.0), line-back l h.0) (ap (λ (r : List Line). l ∷ r) (lines-back ls h.1))
+lines_back [] h = refl
+lines_back (l ∷ ls) h = rw (cut_line [] (print_of l) (text_of ls) (line_unbroken l h.0), line_back l h.0) (ap (λ (r : List Line). l ∷ r) (lines_back ls h.1))

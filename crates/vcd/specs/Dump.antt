@@ -18,23 +18,23 @@ start_of steps = foldl declared (replicate 20 5) steps
 
 -- ---- the header: "the line of its pin A and then of its pin B"
 
-unfoldable pub wiresFrom : (ℕ → Line) → ℕ → List ℕ → List Line
-wiresFrom line e [] = []
-wiresFrom line e (p ∷ ps) = cond (eqb p 5) [] (line (2 * e) ∷ line (2 * e + 1) ∷ []) ++ wiresFrom line (e + 1) ps
+unfoldable pub wires_from : (ℕ → Line) → ℕ → List ℕ → List Line
+wires_from line e [] = []
+wires_from line e (p ∷ ps) = cond (eqb p 5) [] (line (2 * e) ∷ line (2 * e + 1) ∷ []) ++ wires_from line (e + 1) ps
 
 -- pins: of the encoders that are declared; unknown: of those with `x` lines
-abbrev pub headerOf : List ℕ → List ℕ → List Line
-headerOf pins unknown = Fixed 0 ∷ Fixed 1 ∷ (wiresFrom Var 0 pins ++ Fixed 2 ∷ Fixed 3 ∷ Fixed 4 ∷ (wiresFrom Unknown 0 unknown ++ Fixed 5 ∷ []))
+abbrev pub header_of : List ℕ → List ℕ → List Line
+header_of pins unknown = Fixed 0 ∷ Fixed 1 ∷ (wires_from Var 0 pins ++ Fixed 2 ∷ Fixed 3 ∷ Fixed 4 ∷ (wires_from Unknown 0 unknown ++ Fixed 5 ∷ []))
 
 -- ---- the changes
 
 -- "a pin that did not change is not written"
-abbrev pub changeOf : ℕ → Bool → ℕ → ℕ → List Line
-changeOf wire known old new = cond (known && eqb old new) [] (Change wire new ∷ [])
+abbrev pub change_of : ℕ → Bool → ℕ → ℕ → List Line
+change_of wire known old new = cond (known && eqb old new) [] (Change wire new ∷ [])
 
 -- "A before B": the pins of encoder e were p and are v
-unfoldable pub changesOf : ℕ → ℕ → ℕ → List Line
-changesOf e p v = changeOf (2 * e) (ltb p 4) (p % 2) (v % 2) ++ changeOf (2 * e + 1) (ltb p 4) (p / 2) (v / 2)
+unfoldable pub changes_of : ℕ → ℕ → ℕ → List Line
+changes_of e p v = change_of (2 * e) (ltb p 4) (p % 2) (v % 2) ++ change_of (2 * e + 1) (ltb p 4) (p / 2) (v / 2)
 
 -- "A time is written only if something follows it", and once: whether it is has been told
 unfoldable pub timed : Bool → ℕ → List Line → List Line
@@ -42,13 +42,13 @@ timed told now [] = []
 timed told now (l ∷ ls) = cond told [] (Time now ∷ []) ++ l ∷ ls
 
 -- "Changes at one time appear in record order"; "each tick 25 ns"
-unfoldable pub bodyFrom : Bool → ℕ → List ℕ → List Step → List Line
-bodyFrom told now pins [] = []
-bodyFrom told now pins (Wait t ∷ ss) = bodyFrom (told && eqb t 0) (now + 25 * t) pins ss
-bodyFrom told now pins (Pins e v ∷ ss) = let p = get_or pins e 0 in timed told now (changesOf e p v) ++ bodyFrom (told || not (eqb p v)) now (set pins e v) ss
+unfoldable pub body_from : Bool → ℕ → List ℕ → List Step → List Line
+body_from told now pins [] = []
+body_from told now pins (Wait t ∷ ss) = body_from (told && eqb t 0) (now + 25 * t) pins ss
+body_from told now pins (Pins e v ∷ ss) = let p = get_or pins e 0 in timed told now (changes_of e p v) ++ body_from (told || not (eqb p v)) now (set pins e v) ss
 
-unfoldable pub dumpOf : List Step → List Line
-dumpOf steps = headerOf (start_of steps) (start_of steps) ++ bodyFrom false 0 (start_of steps) steps
+unfoldable pub dump_of : List Step → List Line
+dump_of steps = header_of (start_of steps) (start_of steps) ++ body_from false 0 (start_of steps) steps
 
 -- ---- steps of 20 encoders and pins 0 to 3, that end before a time
 

@@ -18,15 +18,15 @@ entries_at now e (p ∷ pins) (c ∷ changed) = cond (eqb c 0) [] (record { time
 
 -- pins: those of each encoder by its last record, 4 before the first; changed: 1 for those that other pins came to at this time.
 -- They are told when time goes on, and at the end
-unfoldable pub entriesFrom : ℕ → List ℕ → List ℕ → List Step → List Entry
-entriesFrom now pins changed [] = entries_at now 0 pins changed
-entriesFrom now pins changed (Wait t ∷ ss) =
-    cond (eqb t 0) (entriesFrom now pins changed ss) (entries_at now 0 pins changed ++ entriesFrom (now + 25 * t) pins (replicate 20 0) ss)
-entriesFrom now pins changed (Pins e v ∷ ss) = entriesFrom now (set pins e v) (cond (eqb (get_or pins e 0) v) changed (set changed e 1)) ss
+unfoldable pub entries_from : ℕ → List ℕ → List ℕ → List Step → List Entry
+entries_from now pins changed [] = entries_at now 0 pins changed
+entries_from now pins changed (Wait t ∷ ss) =
+    cond (eqb t 0) (entries_from now pins changed ss) (entries_at now 0 pins changed ++ entries_from (now + 25 * t) pins (replicate 20 0) ss)
+entries_from now pins changed (Pins e v ∷ ss) = entries_from now (set pins e v) (cond (eqb (get_or pins e 0) v) changed (set changed e 1)) ss
 
-abbrev pub entriesIn : List Step → List Entry
-entriesIn steps = entriesFrom 0 (start_of steps) (replicate 20 0) steps
+abbrev pub entries_in : List Step → List Entry
+entries_in steps = entries_from 0 (start_of steps) (replicate 20 0) steps
 
 -- "16 bytes each: 0-7 the time in ns, 8 bank, 9 encoder, 10 its pins after all changes at that time, 11-15 zero"
-abbrev pub entryBytes : Entry → List ℕ
-entryBytes x = le_bytes 8 x.time ++ (x.encoder / 10 ∷ x.encoder % 10 ∷ x.pins ∷ 0 ∷ 0 ∷ 0 ∷ 0 ∷ 0 ∷ [])
+abbrev pub entry_bytes : Entry → List ℕ
+entry_bytes x = le_bytes 8 x.time ++ (x.encoder / 10 ∷ x.encoder % 10 ∷ x.pins ∷ 0 ∷ 0 ∷ 0 ∷ 0 ∷ 0 ∷ [])

@@ -4,11 +4,11 @@ use Rattle.std.specs.Prelude.{Bool, true, false, ◌&&◌, ◌||◌, not, cond, 
 use mathlib.Core.List.{List, [], ◌∷◌, ◌++◌, foldl}
 use Rattle.decimal.specs.declared.Decimal.{Decimal}
 use Rattle.decimal.specs.declared.Decimal.TheVariants.{Number, NoNumber}
-use Rattle.decimal.specs.Decimal.{decimalOf}
+use Rattle.decimal.specs.Decimal.{decimal_of}
 use Rattle.vcd.specs.declared.Line.{Line}
 use Rattle.vcd.specs.declared.Line.TheVariants.{Fixed, Var, Unknown, Time, Change, Other}
 use Rattle.vcd.specs.declared.Reader.{Reader}
-use Rattle.vcd.specs.Lines.{fixedLines, varOf}
+use Rattle.vcd.specs.Lines.{fixed_lines, var_of}
 use Rattle.vcd.specs.Entries.{Entry, entries_at}
 
 -- ---- a line
@@ -20,15 +20,15 @@ same (a ∷ s) [] = false
 same (a ∷ s) (b ∷ t) = eqb a b && same s t
 
 -- a letter's wire; 40 for any other byte
-abbrev pub wireOf : ℕ → ℕ
-wireOf c = cond (ltb c 65) 40 (cond (ltb c 85) (c - 65) (cond (ltb c 97) 40 (cond (ltb c 117) (c - 77) 40)))
+abbrev pub wire_of : ℕ → ℕ
+wire_of c = cond (ltb c 65) 40 (cond (ltb c 85) (c - 65) (cond (ltb c 97) 40 (cond (ltb c 117) (c - 77) 40)))
 
 -- a line that begins with "$"; byte 12 of a declaration is the wire's letter
-abbrev pub varWith : List ℕ → ℕ → Line
-varWith s w = cond (ltb w 40) (cond (same s (varOf w)) (Var w) Other) Other
+abbrev pub var_with : List ℕ → ℕ → Line
+var_with s w = cond (ltb w 40) (cond (same s (var_of w)) (Var w) Other) Other
 
 abbrev pub fixed_at : ℕ → List ℕ
-fixed_at k = get_or fixedLines k []
+fixed_at k = get_or fixed_lines k []
 
 unfoldable pub head_of : List ℕ → Line
 head_of s =
@@ -37,26 +37,26 @@ head_of s =
     (cond (same s (fixed_at 2)) (Fixed 2)
     (cond (same s (fixed_at 3)) (Fixed 3)
     (cond (same s (fixed_at 4)) (Fixed 4)
-    (cond (same s (fixed_at 5)) (Fixed 5) (varWith s (wireOf (get_or s 12 0))))))))
+    (cond (same s (fixed_at 5)) (Fixed 5) (var_with s (wire_of (get_or s 12 0))))))))
 
 -- a line that begins with "#": "no leading zero"
 abbrev pub number_of : Decimal → Line
 number_of (Number t) = Time t
 number_of NoNumber = Other
 
-unfoldable pub timeOf : List ℕ → Line
-timeOf s = cond (eqb (get_or s 1 0) 48 && ltb 2 (length s)) Other (number_of (decimalOf (drop 1 s)))
+unfoldable pub time_of : List ℕ → Line
+time_of s = cond (eqb (get_or s 1 0) 48 && ltb 2 (length s)) Other (number_of (decimal_of (drop 1 s)))
 
 -- a line of two bytes, a value and a wire's letter
 abbrev pub value_of : ℕ → ℕ → Line
 value_of b w = cond (ltb w 40) (cond (eqb b 120) (Unknown w) (cond (eqb b 48) (Change w 0) (cond (eqb b 49) (Change w 1) Other))) Other
 
-unfoldable pub changeIn : List ℕ → Line
-changeIn s = cond (eqb (length s) 2) (value_of (get_or s 0 0) (wireOf (get_or s 1 0))) Other
+unfoldable pub change_in : List ℕ → Line
+change_in s = cond (eqb (length s) 2) (value_of (get_or s 0 0) (wire_of (get_or s 1 0))) Other
 
 -- what a line says, without its newline
 unfoldable pub line_of : List ℕ → Line
-line_of s = cond (eqb (get_or s 0 0) 35) (timeOf s) (cond (eqb (get_or s 0 0) 36) (head_of s) (changeIn s))
+line_of s = cond (eqb (get_or s 0 0) 35) (time_of s) (cond (eqb (get_or s 0 0) 36) (head_of s) (change_in s))
 
 -- a text's lines, the one under way first; what has no newline is no line
 unfoldable pub lines_from : List ℕ → List ℕ → List Line
@@ -81,40 +81,40 @@ refused r = record { phase = 9; awaited = r.awaited; now = r.now; pins = r.pins;
 abbrev pub follows : ℕ → ℕ → Bool
 follows awaited w = cond (eqb (awaited % 2) 1) (eqb w awaited) (eqb (w % 2) 0 && leb awaited w)
 
-abbrev pub fixedTurn : Reader → ℕ → Reader
-fixedTurn r k =
+abbrev pub fixed_turn : Reader → ℕ → Reader
+fixed_turn r k =
     cond (eqb r.phase k && (ltb k 6 && eqb (r.awaited % 2) 0))
     (record { phase = k + 1; awaited = 0; now = r.now; pins = r.pins; changed = r.changed }) (refused r)
 
-abbrev pub varTurn : Reader → ℕ → Reader
-varTurn r w =
+abbrev pub var_turn : Reader → ℕ → Reader
+var_turn r w =
     cond (eqb r.phase 2 && follows r.awaited w)
     (record { phase = 2; awaited = w + 1; now = r.now; pins = set r.pins (w / 2) 4; changed = r.changed }) (refused r)
 
-abbrev pub unknownTurn : Reader → ℕ → Reader
-unknownTurn r w =
+abbrev pub unknown_turn : Reader → ℕ → Reader
+unknown_turn r w =
     cond (eqb r.phase 5 && (follows r.awaited w && eqb (get_or r.pins (w / 2) 0) 4))
     (record { phase = 5; awaited = w + 1; now = r.now; pins = r.pins; changed = r.changed }) (refused r)
 
 -- "each time a multiple of 25, .. later than the one before, with a change behind it"
-abbrev pub timeTurn : Reader → ℕ → Reader
-timeTurn r t =
+abbrev pub time_turn : Reader → ℕ → Reader
+time_turn r t =
     cond ((eqb r.phase 6 || (eqb r.phase 8 && ltb r.now t)) && (eqb r.awaited 0 && eqb (t % 25) 0))
     (record { phase = 7; awaited = 0; now = t; pins = r.pins; changed = unchanged }) (refused r)
 
 -- a change to b of the wire w, whose encoder has the pins p: "an encoder's first change A's, B's on the next line", else of a wire
 -- "that is there, to another value"
-abbrev pub pinOf : ℕ → ℕ → ℕ
-pinOf p w = cond (eqb (w % 2) 0) (p % 2) (p / 2)
+abbrev pub pin_of : ℕ → ℕ → ℕ
+pin_of p w = cond (eqb (w % 2) 0) (p % 2) (p / 2)
 
 abbrev pub taken : ℕ → ℕ → ℕ → ℕ → Bool
-taken awaited p w b = cond (eqb awaited 0) (cond (eqb p 4) (eqb (w % 2) 0) (ltb p 4 && not (eqb (pinOf p w) b))) (eqb w awaited)
+taken awaited p w b = cond (eqb awaited 0) (cond (eqb p 4) (eqb (w % 2) 0) (ltb p 4 && not (eqb (pin_of p w) b))) (eqb w awaited)
 
 abbrev pub pinned : ℕ → ℕ → ℕ → ℕ
 pinned p w b = cond (eqb (w % 2) 0) (2 * (p / 2) + b) (p % 2 + 2 * b)
 
-abbrev pub changeTurn : Reader → ℕ → ℕ → Reader
-changeTurn r w b =
+abbrev pub change_turn : Reader → ℕ → ℕ → Reader
+change_turn r w b =
     let p = get_or r.pins (w / 2) 0 in
     cond ((eqb r.phase 7 || eqb r.phase 8) && taken r.awaited p w b)
     (record {
@@ -127,11 +127,11 @@ changeTurn r w b =
     (refused r)
 
 unfoldable pub turn_of : Reader → Line → Reader
-turn_of r (Fixed k) = fixedTurn r k
-turn_of r (Var w) = varTurn r w
-turn_of r (Unknown w) = unknownTurn r w
-turn_of r (Time t) = timeTurn r t
-turn_of r (Change w b) = changeTurn r w b
+turn_of r (Fixed k) = fixed_turn r k
+turn_of r (Var w) = var_turn r w
+turn_of r (Unknown w) = unknown_turn r w
+turn_of r (Time t) = time_turn r t
+turn_of r (Change w b) = change_turn r w b
 turn_of r Other = refused r
 
 abbrev pub opening : Reader
@@ -142,17 +142,17 @@ opening = record { phase = 0; awaited = 0; now = 0; pins = replicate 20 5; chang
 abbrev pub standing : Reader → List Entry
 standing r = entries_at r.now 0 r.pins r.changed
 
-unfoldable pub toldBefore : Reader → Line → List Entry
-toldBefore r (Fixed k) = []
-toldBefore r (Var w) = []
-toldBefore r (Unknown w) = []
-toldBefore r (Time t) = standing r
-toldBefore r (Change w b) = []
-toldBefore r Other = []
+unfoldable pub told_before : Reader → Line → List Entry
+told_before r (Fixed k) = []
+told_before r (Var w) = []
+told_before r (Unknown w) = []
+told_before r (Time t) = standing r
+told_before r (Change w b) = []
+told_before r Other = []
 
-unfoldable pub toldFrom : Reader → List Line → List Entry
-toldFrom r [] = standing r
-toldFrom r (l ∷ ls) = toldBefore r l ++ toldFrom (turn_of r l) ls
+unfoldable pub told_from : Reader → List Line → List Entry
+told_from r [] = standing r
+told_from r (l ∷ ls) = told_before r l ++ told_from (turn_of r l) ls
 
 -- the end may come before any time, or after a change
 abbrev pub whole : Reader → Bool
@@ -162,9 +162,9 @@ pub data Told : Type 0 where
   entries : List Entry → Told
   refusal : Told
 
-unfoldable pub toldBy : List Line → Told
-toldBy ls = cond (whole (foldl turn_of opening ls)) (entries (toldFrom opening ls)) refusal
+unfoldable pub told_by : List Line → Told
+told_by ls = cond (whole (foldl turn_of opening ls)) (entries (told_from opening ls)) refusal
 
 -- "no more than 25,207 bytes"
 unfoldable pub read_of : List ℕ → Told
-read_of text = cond (ltb 25207 (length text)) refusal (toldBy (lines_of text))
+read_of text = cond (ltb 25207 (length text)) refusal (told_by (lines_of text))

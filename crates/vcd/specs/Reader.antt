@@ -2,8 +2,8 @@
 use Rattle.std.specs.Prelude.{◌≡◌, false, List, ◌++◌, ℕ, ◌≤◌, ◌^◌, length, replicate}
 use Rattle.vcd.specs.declared.Step.{Step}
 use Rattle.vcd.specs.Lines.{text_of}
-use Rattle.vcd.specs.Dump.{start_of, headerOf, bodyFrom, Good}
-use Rattle.vcd.specs.Entries.{Entry, entriesFrom}
+use Rattle.vcd.specs.Dump.{start_of, header_of, body_from, Good}
+use Rattle.vcd.specs.Entries.{Entry, entries_from}
 
 -- the text is the dump of some steps, and xs are the entries of these
 pub record Reads (text : List ℕ) (xs : List Entry) : Type 0 where
@@ -15,8 +15,8 @@ pub record Reads (text : List ℕ) (xs : List Entry) : Type 0 where
   pub more : List Step
   pub pins : List ℕ
   pub declared : pins ≡ start_of (more ++ unknown ++ steps)
-  pub dump : text ≡ text_of (headerOf pins (start_of unknown) ++ bodyFrom false 0 pins steps)
-  pub entries : xs ≡ entriesFrom 0 pins (replicate 20 0) steps
+  pub dump : text ≡ text_of (header_of pins (start_of unknown) ++ body_from false 0 pins steps)
+  pub entries : xs ≡ entries_from 0 pins (replicate 20 0) steps
   -- "no more than 25,207 bytes"
   pub short : length text ≤ 25207
 

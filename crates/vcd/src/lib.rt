@@ -1,7 +1,7 @@
 // The value change dump of docs/WAVEFORM.md: its lines, and the bytes of the ones that name a wire. Wire 2e is pin A of encoder e and 2e + 1
 // its pin B; encoder e is encoder e % 10 of bank e / 10.
 ghost use Rattle.std.specs.Prelude.{◌≡◌, ◌<◌};
-ghost use Rattle.vcd.specs.Lines.{code_of, varOf};
+ghost use Rattle.vcd.specs.Lines.{code_of, var_of};
 
 // What a record says about time and pins: ticks pass, or the pins of an encoder have a value, bit 0 its A and bit 1 its B.
 #[derive(Drop)]
@@ -50,7 +50,7 @@ pub fn code(wire: usize) -> u8
 // The wire's declaration, without its newline.
 pub fn var_line(wire: usize) -> [u8; 35]
     requires { wire < 40 }
-    ensures { result ≡ varOf wire }
+    ensures { result ≡ var_of wire }
 {
     let letter = code(wire);
     let bank = small(48 + wire / 20);

@@ -11,76 +11,76 @@ use lib.ListN.{length, take, get_or}
 use lib.Seq.{take-suc, take_all, length-take-le}
 use borrow.Author.Tests.{eq-eqb, ne_eqb}
 use Rattle.decimal.specs.Put.{Put}
-use Rattle.decimal.proofs.Puts.{put-nothing, put_then}
+use Rattle.decimal.proofs.Puts.{put_nothing, put_then}
 use Rattle.vcd.specs.declared.Line.{Line}
 use Rattle.vcd.specs.declared.Line.TheVariants.{Fixed, Var, Unknown}
-use Rattle.vcd.specs.Lines.{code_of, varOf, printOf, text_of}
-use Rattle.vcd.specs.Dump.{wiresFrom, headerOf}
+use Rattle.vcd.specs.Lines.{code_of, var_of, print_of, text_of}
+use Rattle.vcd.specs.Dump.{wires_from, header_of}
 use Rattle.vcd_write.proofs.Lines.{lines_then}
-use Rattle.vcd_header.specs.How.{wireLine}
+use Rattle.vcd_header.specs.How.{wire_line}
 
 -- ---- one line
 
 module _ (out out' : List ℕ) (at r w : ℕ) where
-  pub var-put : (line mid : List ℕ) (end : ℕ) → line ≡ varOf w → Put out at line mid end → Put mid end (10 ∷ []) out' r → Put out at (text_of (Var w ∷ [])) out' r
-  unfolding text_of printOf
-  var-put line mid end e x y = rw (← e) (put_then out mid out' line (10 ∷ []) at end r x y)
+  pub var_put : (line mid : List ℕ) (end : ℕ) → line ≡ var_of w → Put out at line mid end → Put mid end (10 ∷ []) out' r → Put out at (text_of (Var w ∷ [])) out' r
+  unfolding text_of print_of
+  var_put line mid end e x y = rw (← e) (put_then out mid out' line (10 ∷ []) at end r x y)
 
-  pub unknown-put : Put out at (120 ∷ code_of w ∷ 10 ∷ []) out' r → Put out at (text_of (Unknown w ∷ [])) out' r
-  unfolding text_of printOf
-  unknown-put x = x
+  pub unknown_put : Put out at (120 ∷ code_of w ∷ 10 ∷ []) out' r → Put out at (text_of (Unknown w ∷ [])) out' r
+  unfolding text_of print_of
+  unknown_put x = x
 
-  pub wire-declared : (t : Bool) → t ≡ true → Put out at (text_of (Var w ∷ [])) out' r → Put out at (text_of (wireLine t w ∷ [])) out' r
-  unfolding wireLine
-  wire-declared t e x = rw e x
+  pub wire_declared : (t : Bool) → t ≡ true → Put out at (text_of (Var w ∷ [])) out' r → Put out at (text_of (wire_line t w ∷ [])) out' r
+  unfolding wire_line
+  wire_declared t e x = rw e x
 
-  pub wire-unknown : (t : Bool) → t ≡ false → Put out at (text_of (Unknown w ∷ [])) out' r → Put out at (text_of (wireLine t w ∷ [])) out' r
-  unfolding wireLine
-  wire-unknown t e x = rw e x
+  pub wire_unknown : (t : Bool) → t ≡ false → Put out at (text_of (Unknown w ∷ [])) out' r → Put out at (text_of (wire_line t w ∷ [])) out' r
+  unfolding wire_line
+  wire_unknown t e x = rw e x
 
 -- ---- the wires
 
 module _ (line : ℕ → Line) (out : List ℕ) (at e x : ℕ) where
-  pub no-wire : x ≡ 5 → Put out at (text_of (wiresFrom line e (x ∷ []))) out at
-  unfolding wiresFrom text_of
-  no-wire q = rw (eq-eqb x 5 q) (put-nothing out at)
+  pub no_wire : x ≡ 5 → Put out at (text_of (wires_from line e (x ∷ []))) out at
+  unfolding wires_from text_of
+  no_wire q = rw (eq-eqb x 5 q) (put_nothing out at)
 
-  pub two-wires : (mid out' : List ℕ) (end r : ℕ) → (x ≡ 5 → ⊥) → Put out at (text_of (line (2 * e) ∷ [])) mid end
-      → Put mid end (text_of (line (2 * e + 1) ∷ [])) out' r → Put out at (text_of (wiresFrom line e (x ∷ []))) out' r
-  unfolding wiresFrom
-  two-wires mid out' end r n y z = rw (ne_eqb x 5 n) (lines_then out mid out' (line (2 * e) ∷ []) (line (2 * e + 1) ∷ []) at end r y z)
+  pub two_wires : (mid out' : List ℕ) (end r : ℕ) → (x ≡ 5 → ⊥) → Put out at (text_of (line (2 * e) ∷ [])) mid end
+      → Put mid end (text_of (line (2 * e + 1) ∷ [])) out' r → Put out at (text_of (wires_from line e (x ∷ []))) out' r
+  unfolding wires_from
+  two_wires mid out' end r n y z = rw (ne_eqb x 5 n) (lines_then out mid out' (line (2 * e) ∷ []) (line (2 * e + 1) ∷ []) at end r y z)
 
-wires-snoc : (line : ℕ → Line) (xs : List ℕ) (k y : ℕ) → wiresFrom line k (xs ++ y ∷ []) ≡ wiresFrom line k xs ++ wiresFrom line (k + length xs) (y ∷ [])
-unfolding wiresFrom
-wires-snoc line [] k y = rw add-zero
-wires-snoc line (x ∷ xs) k y =
+wires_snoc : (line : ℕ → Line) (xs : List ℕ) (k y : ℕ) → wires_from line k (xs ++ y ∷ []) ≡ wires_from line k xs ++ wires_from line (k + length xs) (y ∷ [])
+unfolding wires_from
+wires_snoc line [] k y = rw add-zero
+wires_snoc line (x ∷ xs) k y =
     let e : k + suc (length xs) ≡ k + 1 + length xs = omega arith in
-    rw (e, wires-snoc line xs (k + 1) y) (sym (append_assoc (cond (eqb x 5) [] (line (2 * k) ∷ line (2 * k + 1) ∷ [])) (wiresFrom line (k + 1) xs) (wiresFrom line (k + 1 + length xs) (y ∷ []))))
+    rw (e, wires_snoc line xs (k + 1) y) (sym (append_assoc (cond (eqb x 5) [] (line (2 * k) ∷ line (2 * k + 1) ∷ [])) (wires_from line (k + 1) xs) (wires_from line (k + 1 + length xs) (y ∷ []))))
 
-pub wires-none : (line : ℕ → Line) (out : List ℕ) (at : ℕ) → Put out at (text_of (wiresFrom line 0 [])) out at
-unfolding wiresFrom text_of
-wires-none line out at = put-nothing out at
+pub wires_none : (line : ℕ → Line) (out : List ℕ) (at : ℕ) → Put out at (text_of (wires_from line 0 [])) out at
+unfolding wires_from text_of
+wires_none line out at = put_nothing out at
 
 module _ (line : ℕ → Line) (out mid pins : List ℕ) (at end e : ℕ) where
-  pub wires-next : (out' : List ℕ) (end' x : ℕ) → Put out at (text_of (wiresFrom line 0 (take e pins))) mid end → length pins ≡ 20 → e < 20 → x ≡ get_or pins e 0
-      → Put mid end (text_of (wiresFrom line e (x ∷ []))) out' end' → Put out at (text_of (wiresFrom line 0 (take (e + 1) pins))) out' end'
-  wires-next out' end' x y l i q z =
+  pub wires_next : (out' : List ℕ) (end' x : ℕ) → Put out at (text_of (wires_from line 0 (take e pins))) mid end → length pins ≡ 20 → e < 20 → x ≡ get_or pins e 0
+      → Put mid end (text_of (wires_from line e (x ∷ []))) out' end' → Put out at (text_of (wires_from line 0 (take (e + 1) pins))) out' end'
+  wires_next out' end' x y l i q z =
       let h : e < length pins = omega arith in
       let long : 0 + length (take e pins) ≡ e = zero-add (length (take e pins)) ∙ length-take-le e pins (omega arith) in
-      let same : wiresFrom line 0 (take (e + 1) pins) ≡ wiresFrom line 0 (take e pins) ++ wiresFrom line e (x ∷ []) = (ap (wiresFrom line 0) (rw (add-one e, q) (take-suc pins e 0 h)) ∙ wires-snoc line (take e pins) 0 x ∙ ap (λ (k : ℕ). wiresFrom line 0 (take e pins) ++ wiresFrom line k (x ∷ [])) long) in
-      rw same (lines_then out mid out' (wiresFrom line 0 (take e pins)) (wiresFrom line e (x ∷ [])) at end end' y z)
+      let same : wires_from line 0 (take (e + 1) pins) ≡ wires_from line 0 (take e pins) ++ wires_from line e (x ∷ []) = (ap (wires_from line 0) (rw (add-one e, q) (take-suc pins e 0 h)) ∙ wires_snoc line (take e pins) 0 x ∙ ap (λ (k : ℕ). wires_from line 0 (take e pins) ++ wires_from line k (x ∷ [])) long) in
+      rw same (lines_then out mid out' (wires_from line 0 (take e pins)) (wires_from line e (x ∷ [])) at end end' y z)
 
-  pub wires-done : Put out at (text_of (wiresFrom line 0 (take e pins))) mid end → length pins ≡ 20 → 20 ≤ e → Put out at (text_of (wiresFrom line 0 pins)) mid end
-  wires-done y l h = rw (take_all e pins (omega arith)) at y
+  pub wires_done : Put out at (text_of (wires_from line 0 (take e pins))) mid end → length pins ≡ 20 → 20 ≤ e → Put out at (text_of (wires_from line 0 pins)) mid end
+  wires_done y l h = rw (take_all e pins (omega arith)) at y
 
 -- ---- the header's parts
 
-module _ (pins o a b c d e : List ℕ) (p q r s t : ℕ) (u : Put o 0 (text_of (Fixed 0 ∷ Fixed 1 ∷ [])) a p) (v : Put a p (text_of (wiresFrom (wireLine true) 0 pins)) b q)
-    (w : Put b q (text_of (Fixed 2 ∷ Fixed 3 ∷ Fixed 4 ∷ [])) c r) (x : Put c r (text_of (wiresFrom (wireLine false) 0 pins)) d s) (y : Put d s (text_of (Fixed 5 ∷ [])) e t) where
-  pub header-put : Put o 0 (text_of (headerOf pins pins)) e t
-  unfolding wireLine
-  header-put =
-      lines_then o a e (Fixed 0 ∷ Fixed 1 ∷ []) (wiresFrom Var 0 pins ++ Fixed 2 ∷ Fixed 3 ∷ Fixed 4 ∷ (wiresFrom Unknown 0 pins ++ Fixed 5 ∷ [])) 0 p t u
-      (lines_then a b e (wiresFrom Var 0 pins) (Fixed 2 ∷ Fixed 3 ∷ Fixed 4 ∷ (wiresFrom Unknown 0 pins ++ Fixed 5 ∷ [])) p q t v
-      (lines_then b c e (Fixed 2 ∷ Fixed 3 ∷ Fixed 4 ∷ []) (wiresFrom Unknown 0 pins ++ Fixed 5 ∷ []) q r t w
-      (lines_then c d e (wiresFrom Unknown 0 pins) (Fixed 5 ∷ []) r s t x y)))
+module _ (pins o a b c d e : List ℕ) (p q r s t : ℕ) (u : Put o 0 (text_of (Fixed 0 ∷ Fixed 1 ∷ [])) a p) (v : Put a p (text_of (wires_from (wire_line true) 0 pins)) b q)
+    (w : Put b q (text_of (Fixed 2 ∷ Fixed 3 ∷ Fixed 4 ∷ [])) c r) (x : Put c r (text_of (wires_from (wire_line false) 0 pins)) d s) (y : Put d s (text_of (Fixed 5 ∷ [])) e t) where
+  pub header_put : Put o 0 (text_of (header_of pins pins)) e t
+  unfolding wire_line
+  header_put =
+      lines_then o a e (Fixed 0 ∷ Fixed 1 ∷ []) (wires_from Var 0 pins ++ Fixed 2 ∷ Fixed 3 ∷ Fixed 4 ∷ (wires_from Unknown 0 pins ++ Fixed 5 ∷ [])) 0 p t u
+      (lines_then a b e (wires_from Var 0 pins) (Fixed 2 ∷ Fixed 3 ∷ Fixed 4 ∷ (wires_from Unknown 0 pins ++ Fixed 5 ∷ [])) p q t v
+      (lines_then b c e (Fixed 2 ∷ Fixed 3 ∷ Fixed 4 ∷ []) (wires_from Unknown 0 pins ++ Fixed 5 ∷ []) q r t w
+      (lines_then c d e (wires_from Unknown 0 pins) (Fixed 5 ∷ []) r s t x y)))

@@ -4,6 +4,6 @@ use Rattle.std.specs.Prelude.{Bool, true, false, ℕ}
 use Rattle.vcd.specs.declared.Line.{Line}
 use Rattle.vcd.specs.declared.Line.TheVariants.{Var, Unknown}
 
-unfoldable pub wireLine : Bool → ℕ → Line
-wireLine true w = Var w
-wireLine false w = Unknown w
+unfoldable pub wire_line : Bool → ℕ → Line
+wire_line true w = Var w
+wire_line false w = Unknown w

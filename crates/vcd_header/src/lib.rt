@@ -3,8 +3,8 @@ ghost use Rattle.std.specs.Prelude.{[], ◌∷◌, ◌<◌};
 ghost use Rattle.decimal.specs.Put.{Put};
 ghost use Rattle.vcd.specs.declared.Line.TheVariants.{Var, Unknown};
 ghost use Rattle.vcd.specs.Lines.{text_of};
-ghost use Rattle.vcd.specs.Dump.{wiresFrom, headerOf};
-ghost use Rattle.vcd_header.specs.How.{wireLine};
+ghost use Rattle.vcd.specs.Dump.{wires_from, header_of};
+ghost use Rattle.vcd_header.specs.How.{wire_line};
 
 fn put_var(out: &mut [u8], at: usize, wire: usize) -> usize
     requires { wire < 40 }
@@ -25,7 +25,7 @@ fn put_unknown(out: &mut [u8], at: usize, wire: usize) -> usize
 // The line of a wire in the declarations, or among the unknown values.
 fn put_wire(out: &mut [u8], at: usize, declares: bool, wire: usize) -> usize
     requires { wire < 40 }
-    ensures { Put out.old at (text_of (wireLine declares wire ∷ [])) out.new result }
+    ensures { Put out.old at (text_of (wire_line declares wire ∷ [])) out.new result }
 {
     if declares {
         return put_var(out, at, wire);
@@ -36,7 +36,7 @@ fn put_wire(out: &mut [u8], at: usize, declares: bool, wire: usize) -> usize
 // The two lines of an encoder whose pins are p, if it has a wire.
 fn put_encoder(out: &mut [u8], at: usize, declares: bool, encoder: usize, p: u8) -> usize
     requires { encoder < 20 }
-    ensures { Put out.old at (text_of (wiresFrom (wireLine declares) encoder (p ∷ []))) out.new result }
+    ensures { Put out.old at (text_of (wires_from (wire_line declares) encoder (p ∷ []))) out.new result }
 {
     if p == 5 {
         return at;
@@ -46,7 +46,7 @@ fn put_encoder(out: &mut [u8], at: usize, declares: bool, encoder: usize, p: u8)
 }
 
 fn put_wires(out: &mut [u8], at: usize, declares: bool, pins: [u8; 20]) -> usize
-    ensures { Put out.old at (text_of (wiresFrom (wireLine declares) 0 pins)) out.new result }
+    ensures { Put out.old at (text_of (wires_from (wire_line declares) 0 pins)) out.new result }
 {
     let mut end = at;
     let mut e: usize = 0;
@@ -58,7 +58,7 @@ fn put_wires(out: &mut [u8], at: usize, declares: bool, pins: [u8; 20]) -> usize
 }
 
 pub fn header(out: &mut [u8], pins: [u8; 20]) -> usize
-    ensures { Put out.old 0 (text_of (headerOf pins pins)) out.new result }
+    ensures { Put out.old 0 (text_of (header_of pins pins)) out.new result }
 {
     let a = text::put_word(out, 0, b"$timescale 1 ns $end\n$scope module pins $end\n");
     let b = put_wires(out, a, true, pins);

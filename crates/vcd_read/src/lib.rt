@@ -1,7 +1,7 @@
 // One line of a dump, read.
 ghost use Rattle.std.specs.Prelude.{◌≡◌, ◌≤◌, length, drop};
-ghost use Rattle.decimal.specs.Decimal.{decimalOf};
-ghost use Rattle.vcd.specs.How.{same as sameBytes, wireOf, varWith, head_of, number_of, timeOf, value_of, changeIn, line_of};
+ghost use Rattle.decimal.specs.Decimal.{decimal_of};
+ghost use Rattle.vcd.specs.How.{same as sameBytes, wire_of, var_with, head_of, number_of, time_of, value_of, change_in, line_of};
 ghost use Rattle.vcd_read.specs.Bounds.{Bounded};
 
 use decimal::Decimal;
@@ -25,7 +25,7 @@ fn same(a: &[u8], b: &[u8]) -> bool
 
 // The wire of a letter, 40 for any other byte.
 fn wire_of(letter: u8) -> usize
-    ensures { result ≡ wireOf letter }
+    ensures { result ≡ wire_of letter }
 {
     if letter < 65 {
         return 40;
@@ -43,7 +43,7 @@ fn wire_of(letter: u8) -> usize
 }
 
 fn declaration(s: &[u8], wire: usize) -> Line
-    ensures { result ≡ varWith s.now wire }
+    ensures { result ≡ var_with s.now wire }
 {
     if 40 <= wire {
         return Line::Other;
@@ -86,7 +86,7 @@ fn head(s: &[u8]) -> Line
 // The number behind the first byte.
 fn number(s: &[u8]) -> Line
     requires { 1 ≤ length s.now }
-    ensures { result ≡ number_of (decimalOf (drop 1 s.now)) }
+    ensures { result ≡ number_of (decimal_of (drop 1 s.now)) }
 {
     let d = decimal::read(&s[1..]);
     match d {
@@ -98,7 +98,7 @@ fn number(s: &[u8]) -> Line
 // A line that begins with `#`.
 fn time(s: &[u8]) -> Line
     requires { 1 ≤ length s.now }
-    ensures { result ≡ timeOf s.now }
+    ensures { result ≡ time_of s.now }
 {
     if s.len() <= 2 {
         return number(s);
@@ -128,7 +128,7 @@ fn value(b: u8, wire: usize) -> Line
 }
 
 fn change(s: &[u8]) -> Line
-    ensures { result ≡ changeIn s.now }
+    ensures { result ≡ change_in s.now }
 {
     if s.len() != 2 {
         return Line::Other;

@@ -1,6 +1,6 @@
 // A reader of dumps line by line: what each line makes of it.
 ghost use Rattle.std.specs.Prelude.{◌≡◌, cond, ◌&&◌, ◌+◌, ◌<◌, eqb};
-ghost use Rattle.vcd.specs.How.{refused as refusedOf, follows as followsOf, fixedTurn, varTurn, unknownTurn, timeTurn, pinOf, taken as taken_of, pinned as pinned_of, changeTurn, turn_of, opening as openingOf, whole as whole_of};
+ghost use Rattle.vcd.specs.How.{refused as refusedOf, follows as followsOf, fixed_turn, var_turn, unknown_turn, time_turn, pin_of, taken as taken_of, pinned as pinned_of, change_turn, turn_of, opening as openingOf, whole as whole_of};
 ghost use Rattle.vcd_read.specs.Bounds.{Bounded};
 
 use vcd::{Line, Reader};
@@ -48,7 +48,7 @@ fn follows(awaited: usize, wire: usize) -> bool
 
 fn fixed_turn(r: Reader, k: u8) -> Reader
     requires { k < 6 }
-    ensures { result ≡ fixedTurn r k }
+    ensures { result ≡ fixed_turn r k }
 {
     if (r.phase == k) & (r.awaited % 2 == 0) {
         return moved(r, k + 1, 0);
@@ -58,7 +58,7 @@ fn fixed_turn(r: Reader, k: u8) -> Reader
 
 fn var_turn(r: Reader, wire: usize) -> Reader
     requires { wire < 40 }
-    ensures { result ≡ varTurn r wire }
+    ensures { result ≡ var_turn r wire }
 {
     if (r.phase == 2) & follows(r.awaited, wire) {
         let mut pins = r.pins;
@@ -77,7 +77,7 @@ fn var_turn(r: Reader, wire: usize) -> Reader
 
 fn unknown_turn(r: Reader, wire: usize) -> Reader
     requires { wire < 40 }
-    ensures { result ≡ unknownTurn r wire }
+    ensures { result ≡ unknown_turn r wire }
 {
     let pins = r.pins;
     let p = pins[wire / 2];
@@ -88,7 +88,7 @@ fn unknown_turn(r: Reader, wire: usize) -> Reader
 }
 
 fn time_turn(r: Reader, t: u64) -> Reader
-    ensures { result ≡ timeTurn r t }
+    ensures { result ≡ time_turn r t }
 {
     if ((r.phase == 6) | ((r.phase == 8) & (r.now < t))) & ((r.awaited == 0) & (t % 25 == 0)) {
         let pins = r.pins;
@@ -104,7 +104,7 @@ fn time_turn(r: Reader, t: u64) -> Reader
 }
 
 fn pin_of(p: u8, wire: usize) -> u8
-    ensures { result ≡ pinOf p wire }
+    ensures { result ≡ pin_of p wire }
 {
     if wire % 2 == 0 {
         return p % 2;
@@ -149,7 +149,7 @@ fn awaits(awaited: usize, p: u8, wire: usize) -> usize
 
 fn change_turn(r: Reader, wire: usize, b: u8) -> Reader
     requires { (wire < 40) × (b < 2) }
-    ensures { result ≡ changeTurn r wire b }
+    ensures { result ≡ change_turn r wire b }
 {
     let mut pins = r.pins;
     let e = wire / 2;

@@ -3,7 +3,7 @@ ghost use Rattle.std.specs.Prelude.{cond, [], ◌∷◌, ◌+◌, ◌<◌};
 ghost use Rattle.decimal.specs.Put.{Put};
 ghost use Rattle.vcd.specs.declared.Line.TheVariants.{Time, Change};
 ghost use Rattle.vcd.specs.Lines.{code_of, text_of};
-ghost use Rattle.vcd.specs.Dump.{changesOf, timed};
+ghost use Rattle.vcd.specs.Dump.{changes_of, timed};
 
 // A value and a wire's letter.
 pub fn put_value(out: &mut [u8], at: usize, value: u8, wire: usize) -> usize
@@ -56,7 +56,7 @@ pub fn put_changes(
     v: u8,
 ) -> usize
     requires { (encoder < 20) × (p < 5) × (v < 4) }
-    ensures { Put out.old at (text_of (timed told time (changesOf encoder p v))) out.new result }
+    ensures { Put out.old at (text_of (timed told time (changes_of encoder p v))) out.new result }
 {
     if p == v {
         return at;

@@ -8,19 +8,19 @@ use mir.Syntax.{w64}
 use mir.Val.{Fits}
 use Rattle.transcript.specs.declared.Verdict.{Verdict}
 use Rattle.transcript.specs.declared.Verdict.TheVariants.{Different, Refused}
-use Rattle.transcript.specs.Judge.{Judged, verdictNumbers, Answer}
-use Rattle.judge.proofs.Answers.{small-index, no-two}
-use Rattle.words.specs.Word.{judgedIn}
+use Rattle.transcript.specs.Judge.{Judged, verdict_numbers, Answer}
+use Rattle.judge.proofs.Answers.{small_index, no_two}
+use Rattle.words.specs.Word.{judged_in}
 
 -- a number by its parts, and parts that fit
 together : ℕ × ℕ × ℕ → ℕ
 together p = p.0 + 256 * p.1 + 65_536 * p.2
 
-whole : (w : ℕ) → together (judgedIn w) ≡ w
+whole : (w : ℕ) → together (judged_in w) ≡ w
 unfolding together
 whole w = omega arith
 
-parts : (w k v i : ℕ) → k < 256 → v < 256 → w ≡ k + 256 * v + 65_536 * i → judgedIn w ≡ (k, v, i)
+parts : (w k v i : ℕ) → k < 256 → v < 256 → w ≡ k + 256 * v + 65_536 * i → judged_in w ≡ (k, v, i)
 parts w k v i p q e =
     let a : w % 256 ≡ k = omega arith in
     let h : w / 2 ^ 8 ≡ v + 256 * i = omega arith in
@@ -29,29 +29,29 @@ parts w k v i p q e =
     cc
 
 -- the arms of the code
-module _ (r : Verdict) (i : ℕ) (e : r ≡ Different i) (h : (verdictNumbers r).2 < 2048) where
+module _ (r : Verdict) (i : ℕ) (e : r ≡ Different i) (h : (verdict_numbers r).2 < 2048) where
   small : i < 2048
   small = rw e at h
 
-  pub index-place : (a : ℕ) → a ≤ 65_536 → Fits w64 (a * i)
-  index-place a l = record { fits = omega (arith, small, mul-le-mul_right i l) }
+  pub index_place : (a : ℕ) → a ≤ 65_536 → Fits w64 (a * i)
+  index_place a l = record { fits = omega (arith, small, mul-le-mul_right i l) }
 
-  pub index-beside : (a b : ℕ) → a ≤ 65_536 → b ≤ 65_536 → Fits w64 (b + a * i)
-  index-beside a b l k = record { fits = omega (arith, small, mul-le-mul_right i l) }
+  pub index_beside : (a b : ℕ) → a ≤ 65_536 → b ≤ 65_536 → Fits w64 (b + a * i)
+  index_beside a b l k = record { fits = omega (arith, small, mul-le-mul_right i l) }
 
-  pub index-part : judgedIn (1_024 + 65_536 * i) ≡ verdictNumbers r
-  index-part = rw e (parts (1_024 + 65_536 * i) 0 4 i (omega arith) (omega arith) (omega arith))
+  pub index_part : judged_in (1_024 + 65_536 * i) ≡ verdict_numbers r
+  index_part = rw e (parts (1_024 + 65_536 * i) 0 4 i (omega arith) (omega arith) (omega arith))
 
-pub refused-part : (r : Verdict) (n : ℕ) → r ≡ Refused n → n < 256 → judgedIn n ≡ verdictNumbers r
-refused-part r n e h = rw e (parts n n 0 0 h (omega arith) (omega arith))
+pub refused_part : (r : Verdict) (n : ℕ) → r ≡ Refused n → n < 256 → judged_in n ≡ verdict_numbers r
+refused_part r n e h = rw e (parts n n 0 0 h (omega arith) (omega arith))
 
 -- the call
 module _ (log ts : List ℕ) (r : Verdict) (a : Answer log ts r) where
-  pub index-small : (verdictNumbers r).2 < 2048
-  index-small = small-index log ts (verdictNumbers r) a
+  pub index_small : (verdict_numbers r).2 < 2048
+  index_small = small_index log ts (verdict_numbers r) a
 
-  pub judge-word : (w : ℕ) → judgedIn w ≡ verdictNumbers r → Judged log ts (judgedIn w)
-  judge-word w e = rw e a
+  pub judge_word : (w : ℕ) → judged_in w ≡ verdict_numbers r → Judged log ts (judged_in w)
+  judge_word w e = rw e a
 
-pub judge-settled : (log ts : List ℕ) (v w : ℕ) → Judged log ts (judgedIn v) → Judged log ts (judgedIn w) → v ≡ w
-judge-settled log ts v w p q = sym (whole v) ∙ ap together (no-two log ts (judgedIn v) (judgedIn w) p q) ∙ whole w
+pub judge_settled : (log ts : List ℕ) (v w : ℕ) → Judged log ts (judged_in v) → Judged log ts (judged_in w) → v ≡ w
+judge_settled log ts v w p q = sym (whole v) ∙ ap together (no_two log ts (judged_in v) (judged_in w) p q) ∙ whole w

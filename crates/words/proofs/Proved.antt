@@ -3,19 +3,19 @@ use mathlib.Core.Path.{◌≡◌}
 use Prim.Native.Nat.{ℕ}
 use native.Mathlib.Omega.{arith}
 use Rattle.rate.specs.Rate.{pwm, spi}
-use Rattle.rate.proofs.Answers.{fair-pwm, fair-spi}
+use Rattle.rate.proofs.Answers.{fair_pwm, fair_spi}
 use Rattle.words.specs.Word.{Word, WordsSettled}
-use Rattle.words.proofs.JudgeWord.{judge-settled}
-use Rattle.words.proofs.RateWords.{found-settled, rated-settled}
+use Rattle.words.proofs.JudgeWord.{judge_settled}
+use Rattle.words.proofs.RateWords.{found_settled, rated_settled}
 
-word-settled : (k n v w : ℕ) → Word k n v → Word k n w → v ≡ w
-word-settled k n v w a b = omega (arith, a.refusal, a.above, b.refusal, b.above)
+word_settled : (k n v w : ℕ) → Word k n v → Word k n w → v ≡ w
+word_settled k n v w a b = omega (arith, a.refusal, a.above, b.refusal, b.above)
 
-pub words-settled : WordsSettled
-words-settled = record {
-  word = word-settled;
-  judged = judge-settled;
-  found-pwm = found-settled (pwm 1_000) fair-pwm;
-  found-spi = found-settled (spi 1_000) fair-spi;
-  rated = rated-settled;
+pub words_settled : WordsSettled
+words_settled = record {
+  word = word_settled;
+  judged = judge_settled;
+  found_pwm = found_settled (pwm 1_000) fair_pwm;
+  found_spi = found_settled (spi 1_000) fair_spi;
+  rated = rated_settled;
 }

@@ -11,32 +11,32 @@ use Rattle.rate.specs.declared.Found.{Found}
 use Rattle.rate.specs.declared.Found.TheVariants.{Pair, Refused}
 use Rattle.rate.specs.declared.Rated.{Rated}
 use Rattle.rate.specs.declared.Rated.TheVariants.{Ratio, Unset}
-use Rattle.rate.specs.Rate.{pwm, spi, Outcome, outside, loose, none, pair, Answer, foundNumbers, period, rateOf, ratedNumbers}
+use Rattle.rate.specs.Rate.{pwm, spi, Outcome, outside, loose, none, pair, Answer, found_numbers, period, rate_of, rated_numbers}
 use Rattle.rate.specs.How.{Fair}
 use Rattle.rate_counts.proofs.Dividers.{most}
 use Rattle.rate.proofs.Answers.{same_numbers}
-use Rattle.words.specs.Word.{foundIn, ratedIn}
-use Rattle.words.specs.How.{findWord, rateWord}
+use Rattle.words.specs.Word.{found_in, rated_in}
+use Rattle.words.specs.How.{find_word, rate_word}
 
 -- ---- parts that fit are read back as they were, and a number is its parts
 
-found_back : (n c x p : ℕ) → n < 2 ^ 8 → c < 2 ^ 8 → x < 2 ^ 16 → foundIn (findWord (n, c, x, p)) ≡ (n, c, x, p)
+found_back : (n c x p : ℕ) → n < 2 ^ 8 → c < 2 ^ 8 → x < 2 ^ 16 → found_in (find_word (n, c, x, p)) ≡ (n, c, x, p)
 found_back n c x p h l s = all (omega arith) (omega arith) (omega arith) (omega arith)
   where
     all : {a b d e : ℕ} → a ≡ n → b ≡ c → d ≡ x → e ≡ p → ◌≡◌ {A = ℕ × ℕ × ℕ × ℕ} (a, b, d, e) (n, c, x, p)
     all i j k m = rw (i, j, k, m)
 
-found-whole : (w : ℕ) → findWord (foundIn w) ≡ w
-found-whole w = omega arith
+found_whole : (w : ℕ) → find_word (found_in w) ≡ w
+found_whole w = omega arith
 
-rated-back : (n k p : ℕ) → n < 2 ^ 8 → p < 2 ^ 24 → ratedIn (rateWord (n, k, p)) ≡ (n, k, p)
-rated-back n k p h l = all (omega arith) (omega arith) (omega arith)
+rated_back : (n k p : ℕ) → n < 2 ^ 8 → p < 2 ^ 24 → rated_in (rate_word (n, k, p)) ≡ (n, k, p)
+rated_back n k p h l = all (omega arith) (omega arith) (omega arith)
   where
     all : {a b d : ℕ} → a ≡ n → b ≡ k → d ≡ p → ◌≡◌ {A = ℕ × ℕ × ℕ} (a, b, d) (n, k, p)
     all i j m = rw (i, j, m)
 
-rated-whole : (w : ℕ) → rateWord (ratedIn w) ≡ w
-rated-whole w = omega arith
+rated_whole : (w : ℕ) → rate_word (rated_in w) ≡ w
+rated_whole w = omega arith
 
 -- ---- the rules whose clock and periods fit
 
@@ -44,14 +44,14 @@ pub record Narrow (u : Rule) : Type 0 where
   pub clock : u.hertz < 2 ^ 32
   pub twice : u.base ≤ 2
 
-pub narrow-pwm : Narrow (pwm 1_000)
-narrow-pwm = omega arith
+pub narrow_pwm : Narrow (pwm 1_000)
+narrow_pwm = omega arith
 
-pub narrow-spi : Narrow (spi 1_000)
-narrow-spi = omega arith
+pub narrow_spi : Narrow (spi 1_000)
+narrow_spi = omega arith
 
-period-small : (u : Rule) → Narrow u → (c x : ℕ) → 1 ≤ c → c ≤ 7 → x ≤ 65_535 → period u c x ≤ 8_388_608
-period-small u narrow c x h l s = mul-le-mul {n₂ = 128} {m₂ = 65_536} (mul-le-mul {n₂ = 2} {m₂ = 64} narrow.twice (most c h l)) (omega arith)
+period_small : (u : Rule) → Narrow u → (c x : ℕ) → 1 ≤ c → c ≤ 7 → x ≤ 65_535 → period u c x ≤ 8_388_608
+period_small u narrow c x h l s = mul-le-mul {n₂ = 128} {m₂ = 65_536} (mul-le-mul {n₂ = 2} {m₂ = 64} narrow.twice (most c h l)) (omega arith)
 
 -- ---- an answer to a request
 
@@ -68,58 +68,58 @@ module _ (u : Rule) (narrow : Narrow u) (f tol : ℕ) where
   fits (none a s e) = omega arith
   fits (pair a s w) =
       let p = w.pair in
-      let h = period-small u narrow _ _ p.0 p.1 p.2 in
+      let h = period_small u narrow _ _ p.0 p.1 p.2 in
       omega arith
 
-  pub choice-fits : (r : Found) → Answer u f tol r → (foundNumbers r).1 < 2 ^ 8
-  choice-fits r h = (fits h).choice
+  pub choice_fits : (r : Found) → Answer u f tol r → (found_numbers r).1 < 2 ^ 8
+  choice_fits r h = (fits h).choice
 
-  pub x_fits : (r : Found) → Answer u f tol r → (foundNumbers r).2 < 2 ^ 16
+  pub x_fits : (r : Found) → Answer u f tol r → (found_numbers r).2 < 2 ^ 16
   x_fits r h = (fits h).x
 
-  pub found-period-fits : (r : Found) → Answer u f tol r → (foundNumbers r).3 < 2 ^ 32
-  found-period-fits r h = (fits h).period
+  pub found_period_fits : (r : Found) → Answer u f tol r → (found_numbers r).3 < 2 ^ 32
+  found_period_fits r h = (fits h).period
 
   -- the number of an answer says the answer
-  pub found_word : (r : Found) (w : ℕ) → Answer u f tol r → w ≡ findWord (foundNumbers r) → Outcome u f tol (foundIn w)
+  pub found_word : (r : Found) (w : ℕ) → Answer u f tol r → w ≡ find_word (found_numbers r) → Outcome u f tol (found_in w)
   found_word r w h e =
-      let v = foundNumbers r in
+      let v = found_numbers r in
       let k = fits h in
       rw (e, found_back v.0 v.1 v.2 v.3 k.refusal k.choice k.x) h
 
-pub ruleset parts-fit = (choice-fits, x_fits, found-period-fits, narrow-pwm, narrow-spi)
+pub ruleset parts_fit = (choice_fits, x_fits, found_period_fits, narrow_pwm, narrow_spi)
 
 -- the arms of the code
 module _ (r : Found) (c x p : ℕ) (e : r ≡ Pair c x p) where
-  pub choice-part : (foundNumbers r).1 < 2 ^ 8 → c < 2 ^ 8
-  choice-part h = rw e at h
+  pub choice_part : (found_numbers r).1 < 2 ^ 8 → c < 2 ^ 8
+  choice_part h = rw e at h
 
-  pub x-part : (foundNumbers r).2 < 2 ^ 16 → x < 2 ^ 16
-  x-part h = rw e at h
+  pub x_part : (found_numbers r).2 < 2 ^ 16 → x < 2 ^ 16
+  x_part h = rw e at h
 
-  pub found-period-part : (foundNumbers r).3 < 2 ^ 32 → p < 2 ^ 32
-  found-period-part h = rw e at h
+  pub found_period_part : (found_numbers r).3 < 2 ^ 32 → p < 2 ^ 32
+  found_period_part h = rw e at h
 
-  pub pair-part : (w : ℕ) → w ≡ findWord (0, c, x, p) → w ≡ findWord (foundNumbers r)
-  pair-part w h = rw e h
+  pub pair_part : (w : ℕ) → w ≡ find_word (0, c, x, p) → w ≡ find_word (found_numbers r)
+  pair_part w h = rw e h
 
-pub refused-part : (r : Found) (n : ℕ) → r ≡ Refused n → n ≡ findWord (foundNumbers r)
-refused-part r n e = rw e (omega arith)
+pub refused_part : (r : Found) (n : ℕ) → r ≡ Refused n → n ≡ find_word (found_numbers r)
+refused_part r n e = rw e (omega arith)
 
 -- ---- a rate that registers give
 
 module _ (r : Rated) (k p : ℕ) (e : r ≡ Ratio k p) where
-  pub period-part : (ratedNumbers r).2 < 2 ^ 24 → p < 2 ^ 24
-  period-part h = rw e at h
+  pub period_part : (rated_numbers r).2 < 2 ^ 24 → p < 2 ^ 24
+  period_part h = rw e at h
 
-  pub clock-part : (ratedNumbers r).1 < 2 ^ 32 → k < 2 ^ 32
-  clock-part h = rw e at h
+  pub clock_part : (rated_numbers r).1 < 2 ^ 32 → k < 2 ^ 32
+  clock_part h = rw e at h
 
-  pub ratio-part : (w : ℕ) → w ≡ rateWord (0, k, p) → w ≡ rateWord (ratedNumbers r)
-  ratio-part w h = rw e h
+  pub ratio_part : (w : ℕ) → w ≡ rate_word (0, k, p) → w ≡ rate_word (rated_numbers r)
+  ratio_part w h = rw e h
 
-pub unset-part : (r : Rated) (n : ℕ) → r ≡ Unset n → n ≡ rateWord (ratedNumbers r)
-unset-part r n e = rw e (omega arith)
+pub unset_part : (r : Rated) (n : ℕ) → r ≡ Unset n → n ≡ rate_word (rated_numbers r)
+unset_part r n e = rw e (omega arith)
 
 module _ (u : Rule) (narrow : Narrow u) (c x : ℕ) where
   record Rates (v : ℕ × ℕ × ℕ) : Type 0 where
@@ -127,8 +127,8 @@ module _ (u : Rule) (narrow : Narrow u) (c x : ℕ) where
     clock : v.1 < 2 ^ 32
     period : v.2 < 2 ^ 24
 
-  rated-fits : Rates (rateOf u c x)
-  rated-fits = by (ltb c 1) (ltb 7 c) (ltb 65_535 x) refl refl refl
+  rated_fits : Rates (rate_of u c x)
+  rated_fits = by (ltb c 1) (ltb 7 c) (ltb 65_535 x) refl refl refl
     where
       by : (s t v : Bool) → ltb c 1 ≡ s → ltb 7 c ≡ t → ltb 65_535 x ≡ v →
           Rates (cond (s || (t || v)) (15, 0, 0) (0, u.hertz, period u c x))
@@ -136,22 +136,22 @@ module _ (u : Rule) (narrow : Narrow u) (c x : ℕ) where
       by false true v es et ev = omega arith
       by false false true es et ev = omega arith
       by false false false es et ev =
-          let h = period-small u narrow c x (ltb-false c 1 es) (ltb-false 7 c et) (ltb-false 65_535 x ev) in
+          let h = period_small u narrow c x (ltb-false c 1 es) (ltb-false 7 c et) (ltb-false 65_535 x ev) in
           record { refusal = omega arith; clock = narrow.clock; period = omega arith }
 
-  pub period-fits : (r : Rated) → ratedNumbers r ≡ rateOf u c x → (ratedNumbers r).2 < 2 ^ 24
-  period-fits r e = rw e rated-fits.period
+  pub period_fits : (r : Rated) → rated_numbers r ≡ rate_of u c x → (rated_numbers r).2 < 2 ^ 24
+  period_fits r e = rw e rated_fits.period
 
-  pub clock-fits : (r : Rated) → ratedNumbers r ≡ rateOf u c x → (ratedNumbers r).1 < 2 ^ 32
-  clock-fits r e = rw e rated-fits.clock
+  pub clock_fits : (r : Rated) → rated_numbers r ≡ rate_of u c x → (rated_numbers r).1 < 2 ^ 32
+  clock_fits r e = rw e rated_fits.clock
 
-  pub rated-word : (r : Rated) (w : ℕ) → ratedNumbers r ≡ rateOf u c x → w ≡ rateWord (ratedNumbers r) → ratedIn w ≡ rateOf u c x
-  rated-word r w e l =
-      let v = rateOf u c x in
-      rw (l, e) (rated-back v.0 v.1 v.2 rated-fits.refusal rated-fits.period)
+  pub rated_word : (r : Rated) (w : ℕ) → rated_numbers r ≡ rate_of u c x → w ≡ rate_word (rated_numbers r) → rated_in w ≡ rate_of u c x
+  rated_word r w e l =
+      let v = rate_of u c x in
+      rw (l, e) (rated_back v.0 v.1 v.2 rated_fits.refusal rated_fits.period)
 
-pub found-settled : (u : Rule) → Fair u → (f tol v w : ℕ) → Outcome u f tol (foundIn v) → Outcome u f tol (foundIn w) → v ≡ w
-found-settled u fair f tol v w h l = sym (found-whole v) ∙ ap findWord (same_numbers u fair f tol h l) ∙ found-whole w
+pub found_settled : (u : Rule) → Fair u → (f tol v w : ℕ) → Outcome u f tol (found_in v) → Outcome u f tol (found_in w) → v ≡ w
+found_settled u fair f tol v w h l = sym (found_whole v) ∙ ap find_word (same_numbers u fair f tol h l) ∙ found_whole w
 
-pub rated-settled : (v w : ℕ) → ratedIn v ≡ ratedIn w → v ≡ w
-rated-settled v w h = sym (rated-whole v) ∙ ap rateWord h ∙ rated-whole w
+pub rated_settled : (v w : ℕ) → rated_in v ≡ rated_in w → v ≡ w
+rated_settled v w h = sym (rated_whole v) ∙ ap rate_word h ∙ rated_whole w

@@ -11,68 +11,68 @@ use Rattle.decimal.specs.Ascii.{ascii}
 use Rattle.io.specs.Counts.{IsPrefixLen}
 use Rattle.decimal.specs.declared.Decimal.{Decimal}
 use Rattle.decimal.specs.declared.Decimal.TheVariants.{Number, NoNumber}
-use Rattle.decimal.specs.Digits.{digitsOf}
+use Rattle.decimal.specs.Digits.{digits_of}
 use Rattle.decimal.specs.Put.{Put}
-use Rattle.decimal.proofs.Back.{twenty-digits}
+use Rattle.decimal.proofs.Back.{twenty_digits}
 use Rattle.decimal.proofs.Puts.{put_whole}
-use Rattle.text.specs.Text.{line, noNumberText}
+use Rattle.text.specs.Text.{line, no_number_text}
 use Rattle.edition.specs.declared.Edition.{Edition}
-use Rattle.edition.specs.Edition.{known, editionOf}
+use Rattle.edition.specs.Edition.{known, edition_of}
 use Rattle.fold.specs.Output.{over}
-use Rattle.wire.specs.Decode.{decodeOf}
-use Rattle.records.specs.Record.{refusalOf}
+use Rattle.wire.specs.Decode.{decode_of}
+use Rattle.records.specs.Record.{refusal_of}
 use Rattle.records.specs.declared.Decoded.{Decoded}
 use Rattle.records.specs.declared.Decoded.TheVariants.{Names, Refused}
-use Rattle.wire.proofs.Formed.{refused-by}
-use Rattle.trailer.proofs.Laws.{length-records}
+use Rattle.wire.proofs.Formed.{refused_by_lem}
+use Rattle.trailer.proofs.Laws.{length_records}
 use Rattle.writer.specs.declared.Written.{Written}
-use Rattle.writer.specs.How.{recordsIn}
-use Rattle.writer.specs.Writer.{logOf, refusedBy, first_of, written_of, outputOf}
+use Rattle.writer.specs.How.{records_in}
+use Rattle.writer.specs.Writer.{log_of, refused_by, first_of, written_of, output_of}
 use Rattle.writer.proofs.Answers.{accepted}
 use Rattle.printed.specs.declared.Printed.{Printed}
 use Rattle.printed.specs.Printed.{Prints, Printing}
-use Rattle.printed.proofs.Prints.{put-counts, prints-made, prints-refused}
+use Rattle.printed.proofs.Prints.{put_counts, prints_made, prints_refused}
 use Rattle.write_print.specs.Printed.{WritePrinted}
 
 -- ---- the numbers of an answer are small
 
-refusal-small : (e : Edition) (r : List ℕ) → refusalOf (decodeOf e r) < 9
-refusal-small e r = by (decodeOf e r) refl
+refusal_small : (e : Edition) (r : List ℕ) → refusal_of (decode_of e r) < 9
+refusal_small e r = by (decode_of e r) refl
   where
-    by : (d : Decoded) → decodeOf e r ≡ d → refusalOf d < 9
+    by : (d : Decoded) → decode_of e r ≡ d → refusal_of d < 9
     by (Names x) p = omega arith
-    by (Refused n) p = (refused-by e r n p).1
+    by (Refused n) p = (refused_by_lem e r n p).1
 
 Small : ℕ → Written → Type 0
 Small most w = (w.refused < 9) × (w.number ≤ most)
 
-small-cond : (most : ℕ) (t : Bool) (x y : Written) → Small most x → Small most y → Small most (cond t x y)
-small-cond most true x y p q = p
-small-cond most false x y p q = q
+small_cond : (most : ℕ) (t : Bool) (x y : Written) → Small most x → Small most y → Small most (cond t x y)
+small_cond most true x y p q = p
+small_cond most false x y p q = q
 
 first_small : (e : Edition) (i most : ℕ) (rs : List (List ℕ)) → i + length rs ≤ most → Small most (first_of e i rs)
 unfolding Small first_of
 first_small e i most [] h = (omega arith, omega arith)
-first_small e i most (r ∷ rs) h = small-cond most (eqb (refusalOf (decodeOf e r)) 0) _ _ (first_small e (i + 1) most rs (omega arith)) (refusal-small e r, omega arith)
+first_small e i most (r ∷ rs) h = small_cond most (eqb (refusal_of (decode_of e r)) 0) _ _ (first_small e (i + 1) most rs (omega arith)) (refusal_small e r, omega arith)
 
 module _ (edition : ℕ) (notes run : List ℕ) (room : ℕ) where
   abbrev size : ℕ
-  size = length (logOf notes run edition)
+  size = length (log_of notes run edition)
 
   small : Small (32_768 + length run / 16) (written_of edition notes run room)
   unfolding Small written_of
   small =
-      small-cond _ (not (known edition)) _ _ (fixed 4 (omega arith))
-      (small-cond _ (not (eqb (length run % 16) 0)) _ _ (fixed 5 (omega arith))
-      (small-cond _ (not (eqb (first_of (editionOf edition) 0 (recordsIn run)).refused 0)) _ _ (first_small (editionOf edition) 0 _ (recordsIn run) (omega (arith, length-records 16 (length run / 16) run)))
+      small_cond _ (not (known edition)) _ _ (fixed 4 (omega arith))
+      (small_cond _ (not (eqb (length run % 16) 0)) _ _ (fixed 5 (omega arith))
+      (small_cond _ (not (eqb (first_of (edition_of edition) 0 (records_in run)).refused 0)) _ _ (first_small (edition_of edition) 0 _ (records_in run) (omega (arith, length_records 16 (length run / 16) run)))
       (ending (ltb 32768 size) refl)))
     where
-      fixed : (k : ℕ) → k < 9 → Small (32_768 + length run / 16) (refusedBy k)
+      fixed : (k : ℕ) → k < 9 → Small (32_768 + length run / 16) (refused_by k)
       fixed k h = (h, omega arith)
 
-      ending : (d : Bool) → ltb 32768 size ≡ d → Small (32_768 + length run / 16) (cond d (refusedBy 1) (cond (ltb room size) (refusedBy 6) (record { refused = 0; number = size })))
+      ending : (d : Bool) → ltb 32768 size ≡ d → Small (32_768 + length run / 16) (cond d (refused_by 1) (cond (ltb room size) (refused_by 6) (record { refused = 0; number = size })))
       ending true e = fixed 1 (omega arith)
-      ending false e = small-cond _ (ltb room size) _ _ (fixed 6 (omega arith)) (omega arith, omega (arith, ltb-false 32768 size e))
+      ending false e = small_cond _ (ltb room size) _ _ (fixed 6 (omega arith)) (omega arith, omega (arith, ltb-false 32768 size e))
 
   -- every log has room in 32,768 bytes
   roomy : 32768 ≤ room → written_of edition notes run room ≡ written_of edition notes run 32_768
@@ -85,7 +85,7 @@ module _ (edition : ℕ) (notes run : List ℕ) (room : ℕ) where
 
 -- ---- the ways
 
-module _ (edition : ℕ) (notes run out mid out' : List ℕ) (p : Printed) (room : 32768 ≤ length out) (short : length run < 2 ^ 64) (w : Written) (is : w ≡ written_of edition notes run (length out)) (left : mid ≡ outputOf edition notes run out)
+module _ (edition : ℕ) (notes run out mid out' : List ℕ) (p : Printed) (room : 32768 ≤ length out) (short : length run < 2 ^ 64) (w : Written) (is : w ≡ written_of edition notes run (length out)) (left : mid ≡ output_of edition notes run out)
     (x : Printing w.refused w.number w.number mid out' p) where
   same : written_of edition notes run 32_768 ≡ w
   same = sym (is ∙ roomy edition notes run (length out) room)
@@ -94,38 +94,38 @@ module _ (edition : ℕ) (notes run out mid out' : List ℕ) (p : Printed) (room
   unfolding Small
   few = subst (Small (32_768 + length run / 16)) (sym is) (small edition notes run (length out))
 
-  pub log-printed : WritePrinted (Number edition) notes run out' p
+  pub log_printed : WritePrinted (Number edition) notes run out' p
   unfolding over
-  log-printed = rw same (by (eqb w.refused 0) refl)
+  log_printed = rw same (by (eqb w.refused 0) refl)
     where
-      by : (t : Bool) → eqb w.refused 0 ≡ t → Prints w.refused w.number (logOf notes run edition) out' p
+      by : (t : Bool) → eqb w.refused 0 ≡ t → Prints w.refused w.number (log_of notes run edition) out' p
       by true e =
-          let log = logOf notes run edition in
+          let log = log_of notes run edition in
           let z = eqb-true w.refused 0 e in
           let a = accepted edition notes run (length out) (ap (λ (v : Written). v.refused) (sym is) ∙ z) in
-          prints-made w.refused w.number w.number log (drop (length log) out) mid out' p x w.number z (ap (λ (v : Written). v.number) (is ∙ a.is)) (left ∙ rw a.is)
+          prints_made w.refused w.number w.number log (drop (length log) out) mid out' p x w.number z (ap (λ (v : Written). v.number) (is ∙ a.is)) (left ∙ rw a.is)
       by false e =
           let nz = eqb-false w.refused 0 e in
           let m : mid ≡ out = left ∙ rw (← is, e) in
-          prints-refused w.refused w.number w.number (logOf notes run edition) [] mid out' p x nz (omega (arith, few)) (omega (arith, few)) (omega (arith, ap length m))
+          prints_refused w.refused w.number w.number (log_of notes run edition) [] mid out' p x nz (omega (arith, few)) (omega (arith, few)) (omega (arith, ap length m))
 
 -- what is no number
-abbrev editionWord : List ℕ
-editionWord = ascii "EDITION"
+abbrev edition_word : List ℕ
+edition_word = ascii "EDITION"
 
-none-short : length (noNumberText editionWord) ≤ 60
-none-short =
-    let most = digitsOf 18_446_744_073_709_551_615 in
-    omega (arith, length-append editionWord (line (ascii " is no decimal number from 0 to " ++ most)), length-append (ascii " is no decimal number from 0 to " ++ most) (10 ∷ []), length-append (ascii " is no decimal number from 0 to ") most, twenty-digits 18_446_744_073_709_551_615 (omega arith))
+none_short : length (no_number_text edition_word) ≤ 60
+none_short =
+    let most = digits_of 18_446_744_073_709_551_615 in
+    omega (arith, length-append edition_word (line (ascii " is no decimal number from 0 to " ++ most)), length-append (ascii " is no decimal number from 0 to " ++ most) (10 ∷ []), length-append (ascii " is no decimal number from 0 to ") most, twenty_digits 18_446_744_073_709_551_615 (omega arith))
 
-pub no-number-printed : (edition : Decimal) (notes run out out' : List ℕ) (n : ℕ) → edition ≡ NoNumber → 32768 ≤ length out → Put out 0 (noNumberText editionWord) out' n
+pub no_number_printed : (edition : Decimal) (notes run out out' : List ℕ) (n : ℕ) → edition ≡ NoNumber → 32768 ≤ length out → Put out 0 (no_number_text edition_word) out' n
     → WritePrinted edition notes run out' (record { size = n; refused = true })
-no-number-printed edition notes run out out' n e room x = rw e
-    (record { counts = put-counts out out' (noNumberText editionWord) n x; bytes = (put_whole out (noNumberText editionWord) out' n x (omega (arith, none-short))).1; where_to = refl })
+no_number_printed edition notes run out out' n e room x = rw e
+    (record { counts = put_counts out out' (no_number_text edition_word) n x; bytes = (put_whole out (no_number_text edition_word) out' n x (omega (arith, none_short))).1; where_to = refl })
 
-pub number-printed : (edition : Decimal) (k : ℕ) (notes run out' : List ℕ) (p : Printed) → edition ≡ Number k → WritePrinted (Number k) notes run out' p → WritePrinted edition notes run out' p
-number-printed edition k notes run out' p e h = rw e h
+pub number_printed : (edition : Decimal) (k : ℕ) (notes run out' : List ℕ) (p : Printed) → edition ≡ Number k → WritePrinted (Number k) notes run out' p → WritePrinted edition notes run out' p
+number_printed edition k notes run out' p e h = rw e h
 
-pub some-counts : (edition : Decimal) (notes run out' : List ℕ) (p : Printed) → WritePrinted edition notes run out' p → IsPrefixLen p.size out'
-some-counts NoNumber notes run out' p h = h.counts
-some-counts (Number k) notes run out' p h = h.counts
+pub some_counts : (edition : Decimal) (notes run out' : List ℕ) (p : Printed) → WritePrinted edition notes run out' p → IsPrefixLen p.size out'
+some_counts NoNumber notes run out' p h = h.counts
+some_counts (Number k) notes run out' p h = h.counts

@@ -11,19 +11,19 @@ use lib.ListN.{length, drop, length-append}
 use lib.Seq.{sets-eq}
 use borrow.Author.Tests.{lt-ltb, le-ltb, eq-eqb, ne_eqb, ltb-false, eqb-true, eqb-false}
 use Rattle.edition.specs.declared.Edition.{Edition}
-use Rattle.edition.specs.Edition.{known, editionOf}
+use Rattle.edition.specs.Edition.{known, edition_of}
 use Rattle.fold.specs.Output.{over}
 use Rattle.decimal.specs.Put.{Put}
 use Rattle.decimal.proofs.Puts.{put_then}
 use Rattle.writer.specs.declared.Written.{Written}
-use Rattle.writer.specs.Writer.{logOf, refusedBy, first_of, written_of, outputOf}
-use Rattle.writer.specs.How.{recordsIn, trailer}
+use Rattle.writer.specs.Writer.{log_of, refused_by, first_of, written_of, output_of}
+use Rattle.writer.specs.How.{records_in, trailer}
 
 module _ (edition : ℕ) (notes run : List ℕ) where
   abbrev all : List ℕ
-  all = logOf notes run edition
+  all = log_of notes run edition
 
-  pub size_is : length (logOf notes run edition) ≡ length notes + length run + 8
+  pub size_is : length (log_of notes run edition) ≡ length notes + length run + 8
   size_is =
       let last = trailer edition (length run) in
       length-append (notes ++ run) last ∙ omega (arith, length-append notes run)
@@ -35,54 +35,54 @@ module _ (edition : ℕ) (notes run : List ℕ) where
     -- ---- each way through the tests
 
     module _ (b : Bool) (is : b ≡ known edition) where
-      pub no-edition : (w : Written) → w ≡ refusedBy 4 → not b ≡ true → w ≡ answer
+      pub no_edition_lem : (w : Written) → w ≡ refused_by 4 → not b ≡ true → w ≡ answer
       unfolding written_of
-      no-edition w r f = rw (← is, f) r
+      no_edition_lem w r f = rw (← is, f) r
 
-      module _ (t : not b ≡ false) (e : Edition) (length-tested each first : Written) (by : e ≡ editionOf edition)
-          (length-told : length-tested ≡ cond (eqb (length run % 16) 0) (refusedBy 0) (refusedBy 5)) (found : each ≡ first_of e 0 (recordsIn run))
+      module _ (t : not b ≡ false) (e : Edition) (length-tested each first : Written) (by : e ≡ edition_of edition)
+          (length-told : length-tested ≡ cond (eqb (length run % 16) 0) (refused_by 0) (refused_by 5)) (found : each ≡ first_of e 0 (records_in run))
           (told : first ≡ cond (eqb length-tested.refused 0) each length-tested) where
-        either : (w : Bool) → eqb (length run % 16) 0 ≡ w → first ≡ cond w each (refusedBy 5)
+        either : (w : Bool) → eqb (length run % 16) 0 ≡ w → first ≡ cond w each (refused_by 5)
         either true z = told ∙ rw (length-told, z)
         either false z = told ∙ rw (length-told, z)
 
-        pub no-run-or-record : (first.refused ≡ 0 → ⊥) → first ≡ answer
+        pub no_run_or_record : (first.refused ≡ 0 → ⊥) → first ≡ answer
         unfolding written_of
-        no-run-or-record h = so (eqb (length run % 16) 0) refl
+        no_run_or_record h = so (eqb (length run % 16) 0) refl
           where
             so : (w : Bool) → eqb (length run % 16) 0 ≡ w → first ≡ answer
             so true z = let q = either true z in rw (← is, t, z, ← by, ← found, ne_eqb each.refused 0 (λ f. h (ap (λ (x : Written). x.refused) q ∙ f))) q
             so false z = rw (← is, t, z) (either false z)
 
         module _ (passed : first.refused ≡ 0) where
-          so-passed : (w : Bool) → eqb (length run % 16) 0 ≡ w → (length run % 16 ≡ 0) × (each.refused ≡ 0)
-          so-passed true z = (eqb-true _ 0 z, ap (λ (x : Written). x.refused) (sym (either true z)) ∙ passed)
-          so-passed false z = absurd (let f = ap (λ (x : Written). x.refused) (either false z) in omega (arith, f, passed))
+          so_passed : (w : Bool) → eqb (length run % 16) 0 ≡ w → (length run % 16 ≡ 0) × (each.refused ≡ 0)
+          so_passed true z = (eqb-true _ 0 z, ap (λ (x : Written). x.refused) (sym (either true z)) ∙ passed)
+          so_passed false z = absurd (let f = ap (λ (x : Written). x.refused) (either false z) in omega (arith, f, passed))
 
           whole : length run % 16 ≡ 0
-          whole = (so-passed (eqb (length run % 16) 0) refl).0
+          whole = (so_passed (eqb (length run % 16) 0) refl).0
 
           fine : each.refused ≡ 0
-          fine = (so-passed (eqb (length run % 16) 0) refl).1
+          fine = (so_passed (eqb (length run % 16) 0) refl).1
 
-          too_long : (w : Written) → w ≡ refusedBy 1 → 32768 < length all → w ≡ answer
+          too_long : (w : Written) → w ≡ refused_by 1 → 32768 < length all → w ≡ answer
           unfolding written_of
           too_long w r h = rw (← is, t, eq-eqb (length run % 16) 0 whole, ← by, ← found, eq-eqb each.refused 0 fine, lt-ltb 32768 (length all) h) r
 
-          pub long-notes : (w : Written) → w ≡ refusedBy 1 → 32760 < length notes → w ≡ answer
-          long-notes w r h = too_long w r (omega (arith, size_is))
+          pub long_notes : (w : Written) → w ≡ refused_by 1 → 32760 < length notes → w ≡ answer
+          long_notes w r h = too_long w r (omega (arith, size_is))
 
-          pub long-run : (w : Written) → w ≡ refusedBy 1 → length notes ≤ 32760 → 32760 - length notes < length run → w ≡ answer
-          long-run w r h l = too_long w r (omega (arith, size_is))
+          pub long_run : (w : Written) → w ≡ refused_by 1 → length notes ≤ 32760 → 32760 - length notes < length run → w ≡ answer
+          long_run w r h l = too_long w r (omega (arith, size_is))
 
           module _ (n : ℕ) (sum : n ≡ length notes + length run + 8) (short : length notes ≤ 32760) (fits : length run ≤ 32760 - length notes) where
-            pub no_room : (w : Written) → w ≡ refusedBy 6 → room < n → w ≡ answer
+            pub no_room : (w : Written) → w ≡ refused_by 6 → room < n → w ≡ answer
             unfolding written_of
             no_room w r h = rw (← is, t, eq-eqb (length run % 16) 0 whole, ← by, ← found, eq-eqb each.refused 0 fine, le-ltb 32768 (length all) (omega (arith, size_is)), lt-ltb room (length all) (omega (arith, size_is))) r
 
-            pub all-written : n ≤ room → record { refused = 0; number = n } ≡ answer
+            pub all_written : n ≤ room → record { refused = 0; number = n } ≡ answer
             unfolding written_of
-            all-written h =
+            all_written h =
                 let same : length all ≡ n = size_is ∙ sym sum in
                 rw (← is, t, eq-eqb (length run % 16) 0 whole, ← by, ← found, eq-eqb each.refused 0 fine, same, le-ltb 32768 n (omega arith), le-ltb room n h)
 
@@ -90,20 +90,20 @@ module _ (edition : ℕ) (notes run : List ℕ) where
 
     pub record Accepted : Type 0 where
       pub is : answer ≡ record { refused = 0; number = length all }
-      pub edition-known : known edition ≡ true
+      pub edition_known : known edition ≡ true
       pub whole_run : length run % 16 ≡ 0
-      pub all-fine : (first_of (editionOf edition) 0 (recordsIn run)).refused ≡ 0
+      pub all_fine : (first_of (edition_of edition) 0 (records_in run)).refused ≡ 0
       pub short : length all ≤ 32768
       pub fits : length all ≤ room
 
     pub accepted : answer.refused ≡ 0 → Accepted
     unfolding written_of
     accepted =
-        let first = first_of (editionOf edition) 0 (recordsIn run) in
+        let first = first_of (edition_of edition) 0 (records_in run) in
         by (known edition) (eqb (length run % 16) 0) (eqb first.refused 0) (ltb 32768 (length all)) (ltb room (length all)) refl refl refl refl refl
       where
-        by : (a b c d f : Bool) → known edition ≡ a → eqb (length run % 16) 0 ≡ b → eqb (first_of (editionOf edition) 0 (recordsIn run)).refused 0 ≡ c → ltb 32768 (length all) ≡ d → ltb room (length all) ≡ f
-            → (cond (not a) (refusedBy 4) (cond (not b) (refusedBy 5) (cond (not c) (first_of (editionOf edition) 0 (recordsIn run)) (cond d (refusedBy 1) (cond f (refusedBy 6) (record { refused = 0; number = length all })))))).refused ≡ 0
+        by : (a b c d f : Bool) → known edition ≡ a → eqb (length run % 16) 0 ≡ b → eqb (first_of (edition_of edition) 0 (records_in run)).refused 0 ≡ c → ltb 32768 (length all) ≡ d → ltb room (length all) ≡ f
+            → (cond (not a) (refused_by 4) (cond (not b) (refused_by 5) (cond (not c) (first_of (edition_of edition) 0 (records_in run)) (cond d (refused_by 1) (cond f (refused_by 6) (record { refused = 0; number = length all })))))).refused ≡ 0
             → Accepted
         by false b c d f p q r s t h = absurd (omega arith)
         by true false c d f p q r s t h = absurd (omega arith)
@@ -112,9 +112,9 @@ module _ (edition : ℕ) (notes run : List ℕ) where
         by true true true false true p q r s t h = absurd (omega arith)
         by true true true false false p q r s t h = record {
           is = rw (p, q, r, s, t);
-          edition-known = p;
+          edition_known = p;
           whole_run = eqb-true (length run % 16) 0 q;
-          all-fine = eqb-true (first_of (editionOf edition) 0 (recordsIn run)).refused 0 r;
+          all_fine = eqb-true (first_of (edition_of edition) 0 (records_in run)).refused 0 r;
           short = ltb-false 32768 (length all) s;
           fits = ltb-false room (length all) t;
         }
@@ -122,10 +122,10 @@ module _ (edition : ℕ) (notes run : List ℕ) where
   -- ---- the buffer
 
   module _ (out : List ℕ) (w : Written) (is : w ≡ written_of edition notes run (length out)) where
-    pub untouched : (w.refused ≡ 0 → ⊥) → out ≡ outputOf edition notes run out
+    pub untouched : (w.refused ≡ 0 → ⊥) → out ≡ output_of edition notes run out
     untouched h = rw (← is, ne_eqb w.refused 0 h)
 
-    pub placed : w.refused ≡ 0 → (out' : List ℕ) (n : ℕ) → Put out 0 (logOf notes run edition) out' n → out' ≡ outputOf edition notes run out
+    pub placed : w.refused ≡ 0 → (out' : List ℕ) (n : ℕ) → Put out 0 (log_of notes run edition) out' n → out' ≡ output_of edition notes run out
     unfolding over
     placed z out' n x =
         let room = (accepted (length out) (ap (λ (y : Written). y.refused) (sym is) ∙ z)).fits in
@@ -134,6 +134,6 @@ module _ (edition : ℕ) (notes run : List ℕ) where
 -- ---- the log, part by part
 
 pub put_three : (edition : ℕ) (notes run last a b c d : List ℕ) (p q r : ℕ) → Put a 0 notes b p → Put b p run c q → last ≡ trailer edition (length run) → Put c q last d r
-    → Put a 0 (logOf notes run edition) d r
+    → Put a 0 (log_of notes run edition) d r
 put_three edition notes run last a b c d p q r x y e z =
     rw (← e) (put_then a c d (notes ++ run) last 0 q r (put_then a b c notes run 0 p q x y) z)

@@ -2,20 +2,20 @@
 -- Assumes nothing.
 use mathlib.Core.Path.{◌≡◌}
 use Prim.Native.Nat.{◌-◌, ◌≤◌}
-use Rattle.laws.proofs.Each.{long-field}
-use Rattle.banks.proofs.Copies.{encoders-out, encoders-next, pwms-out, pwms-next, all-out}
+use Rattle.laws.proofs.Each.{long_field}
+use Rattle.banks.proofs.Copies.{encoders_out, encoders_next, pwms_out, pwms_next, all_out}
 use borrow.Author.Rules.{rules}
 use Rattle.banks.proofs.bank_in.Statement.{statement}
 use Rattle.banks.proofs.bank_in.Tie as tie
 
 abbrev invariant-loop : tie.invariant-loop
-invariant-loop k f b₀ i₀ b i = (i ≤ 10) × (b ≡ encoders-out b₀ f k i)
+invariant-loop k f b₀ i₀ b i = (i ≤ 10) × (b ≡ encoders_out b₀ f k i)
 
 abbrev decreases-loop : tie.decreases-loop
 decreases-loop k f b₀ i₀ b i = 10 - i
 
 abbrev invariant-loop2 : tie.invariant-loop2
-invariant-loop2 k f b₀ i₀ b i = (i ≤ 20) × (b ≡ pwms-out b₀ f k i)
+invariant-loop2 k f b₀ i₀ b i = (i ≤ 20) × (b ≡ pwms_out b₀ f k i)
 
 abbrev decreases-loop2 : tie.decreases-loop2
 decreases-loop2 k f b₀ i₀ b i = 20 - i
@@ -38,7 +38,7 @@ bank-in-spec =
     (λ c. search rules)
     (λ c. search rules)
     (λ c. search rules)
-    (λ c. (search rules, search (encoders-next, long-field)))
+    (λ c. (search rules, search (encoders_next, long_field)))
     (λ c. search rules)
     (λ c. search rules)
     (λ c. search rules)
@@ -48,9 +48,9 @@ bank-in-spec =
     (λ c. search rules)
     (λ c. search rules)
     (λ c. search rules)
-    (λ c. (search rules, search (pwms-next, long-field)))
+    (λ c. (search rules, search (pwms_next, long_field)))
     (λ c. search rules)
     (λ c. search rules)
     (λ c. search rules)
     (λ c. search rules)
-    (λ c. search (all-out, long-field)))
+    (λ c. search (all_out, long_field)))

@@ -2,20 +2,20 @@
 -- Assumes nothing.
 use mathlib.Core.Path.{◌≡◌}
 use Prim.Native.Nat.{◌-◌, ◌≤◌}
-use Rattle.laws.proofs.Each.{long-field}
-use Rattle.banks.proofs.Copies.{encoders-in, encoders-none, encoders-more, pwms-in, pwms-none, pwms-more, all_in}
+use Rattle.laws.proofs.Each.{long_field}
+use Rattle.banks.proofs.Copies.{encoders_in, encoders_none, encoders_more, pwms_in, pwms_none, pwms_more, all_in}
 use borrow.Author.Rules.{rules}
 use Rattle.banks.proofs.laid.Statement.{statement}
 use Rattle.banks.proofs.laid.Tie as tie
 
 abbrev invariant-loop : tie.invariant-loop
-invariant-loop k b g₀ i₀ g i = (i ≤ 10) × (g ≡ encoders-in g₀ b k i)
+invariant-loop k b g₀ i₀ g i = (i ≤ 10) × (g ≡ encoders_in g₀ b k i)
 
 abbrev decreases-loop : tie.decreases-loop
 decreases-loop k b g₀ i₀ g i = 10 - i
 
 abbrev invariant-loop2 : tie.invariant-loop2
-invariant-loop2 k b g₀ i₀ g i = (i ≤ 20) × (g ≡ pwms-in g₀ b k i)
+invariant-loop2 k b g₀ i₀ g i = (i ≤ 20) × (g ≡ pwms_in g₀ b k i)
 
 abbrev decreases-loop2 : tie.decreases-loop2
 decreases-loop2 k b g₀ i₀ g i = 20 - i
@@ -28,7 +28,7 @@ laid-spec =
     decreases-loop
     invariant-loop2
     decreases-loop2
-    (λ c. (search rules, search encoders-none))
+    (λ c. (search rules, search encoders_none))
     (λ c. search rules)
     (λ c. search rules)
     (λ c. search rules)
@@ -37,8 +37,8 @@ laid-spec =
     (λ c. search rules)
     (λ c. search rules)
     (λ c. search rules)
-    (λ c. (search rules, search (encoders-more, long-field)))
-    (λ c. (search rules, search pwms-none))
+    (λ c. (search rules, search (encoders_more, long_field)))
+    (λ c. (search rules, search pwms_none))
     (λ c. search rules)
     (λ c. search rules)
     (λ c. search rules)
@@ -47,9 +47,9 @@ laid-spec =
     (λ c. search rules)
     (λ c. search rules)
     (λ c. search rules)
-    (λ c. (search rules, search (pwms-more, long-field)))
+    (λ c. (search rules, search (pwms_more, long_field)))
     (λ c. search rules)
     (λ c. search rules)
     (λ c. search rules)
     (λ c. search rules)
-    (λ c. search (all_in, long-field)))
+    (λ c. search (all_in, long_field)))

@@ -1,5 +1,5 @@
-use Rattle.laws.proofs.Each.{long-field}
-use Rattle.banks.proofs.Copies.{both-in}
+use Rattle.laws.proofs.Each.{long_field}
+use Rattle.banks.proofs.Copies.{both_in}
 use borrow.Author.Rules.{rules}
 use Rattle.banks.proofs.laid_out.Statement.{statement}
 use Rattle.banks.proofs.laid_out.Tie as tie
@@ -15,4 +15,4 @@ laid-out-spec =
     (λ c. search rules)
     (λ c κs. search rules)
     (λ c κs. search rules)
-    (λ c. let t = c.before.before.before.before.before.before.before in search (both-in, long-field, t.well-formed)))
+    (λ c. let t = c.before.before.before.before.before.before.before in search (both_in, long_field, t.well-formed)))

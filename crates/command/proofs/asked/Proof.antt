@@ -1,15 +1,15 @@
 -- `command::asked` meets its contract. Assumes nothing.
 use borrow.Author.Rules.{rules}
 use Rattle.laws.proofs.Cases.{cases, taken, left}
-use Rattle.rate_print.proofs.Says.{asks, asks-else}
-use Rattle.command.specs.Asked.{commandOf}
+use Rattle.rate_print.proofs.Says.{asks, asks_else}
+use Rattle.command.specs.Asked.{command_of}
 use Rattle.command.proofs.asked.Statement.{statement}
 use Rattle.command.proofs.asked.Tie as tie
 
-ruleset told = (asks, asks-else, taken, left, cases)
+ruleset told = (asks, asks_else, taken, left, cases)
 
 pub asked-spec : {M : Type 1} → statement M
-unfolding commandOf
+unfolding command_of
 asked-spec =
     tie.close
     (tie.spec

@@ -11,7 +11,7 @@ use lib.Pow.{pow_mono}
 use borrow.Author.Rules.{rules}
 use Rattle.laws.proofs.Cases.{cases}
 use Rattle.laws.proofs.Table.{at}
-use Rattle.divider.specs.Divider.{dividerOf}
+use Rattle.divider.specs.Divider.{divider_of}
 use Rattle.divider.proofs.Powers.{power}
 use Rattle.divider.proofs.divider.Statement.{statement}
 use Rattle.divider.proofs.divider.Tie as tie
@@ -27,7 +27,7 @@ module _ (c n : ℕ) (h : 1 ≤ c) (l : c ≤ 7) (e : n ≡ get_or dividers (c -
   unfolding right
   entry = e ∙ eqb→eq (get_or dividers (c - 1) 0) (2 ^ (c - 1)) (at right dividers tt (c - 1) (omega arith))
 
-  rule : n ≡ dividerOf c
+  rule : n ≡ divider_of c
   rule = entry ∙ sym (power c h l)
 
   most : n ≤ 64

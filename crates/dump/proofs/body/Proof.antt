@@ -2,7 +2,7 @@
 use Prim.Native.Nat.{◌-◌}
 use lib.Dec.{lit≤}
 use borrow.Author.Rules.{rules}
-use Rattle.dump.proofs.Passes.{Going, begins, same-long, ends, ticks-fit, time-fits, goes-wait, going-encoder, going-value, value-fits, going-known, goes-pins}
+use Rattle.dump.proofs.Passes.{Going, begins, same_long, ends, ticks_fit, time_fits, goes_wait, going_encoder, going_value, value_fits, going_known, goes_pins}
 use Rattle.dump.proofs.body.Statement.{statement}
 use Rattle.dump.proofs.body.Tie as tie
 
@@ -24,16 +24,16 @@ body-spec =
     (λ c κs. search rules)
     (λ c. search rules)
     (λ c. search rules)
-    (λ c. search (ticks-fit, lit≤))
-    (λ c. search (time-fits, lit≤))
+    (λ c. search (ticks_fit, lit≤))
+    (λ c. search (time_fits, lit≤))
     (λ c. search rules)
-    (λ c. search goes-wait)
+    (λ c. search goes_wait)
     (λ c. search rules)
-    (λ c. search going-encoder)
-    (λ c. search value-fits)
-    (λ c κs. (search going-encoder, search going-known, search going-value))
-    (λ c. search going-encoder)
+    (λ c. search going_encoder)
+    (λ c. search value_fits)
+    (λ c κs. (search going_encoder, search going_known, search going_value))
+    (λ c. search going_encoder)
     (λ c. search rules)
-    (λ c. search goes-pins)
-    (λ c. search same-long)
+    (λ c. search goes_pins)
+    (λ c. search same_long)
     (λ c. search ends))

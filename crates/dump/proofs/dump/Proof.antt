@@ -1,7 +1,7 @@
 -- `dump::dump` meets its contract. Assumes nothing.
 use borrow.Author.Rules.{rules}
-use Rattle.made.proofs.Makes.{refused-answer, refused-output}
-use Rattle.dump.proofs.Whole.{is-ready, found-answer, found-output}
+use Rattle.made.proofs.Makes.{refused_answer, refused_output}
+use Rattle.dump.proofs.Whole.{is_ready, found_answer, found_output}
 use Rattle.dump.proofs.dump.Statement.{statement}
 use Rattle.dump.proofs.dump.Tie as tie
 
@@ -12,7 +12,7 @@ dump-spec =
     (λ c κs. search rules)
     (λ c. search rules)
     (λ c. search rules)
-    (λ c κs. search is-ready)
-    (λ c. (search refused-answer, search refused-output))
+    (λ c κs. search is_ready)
+    (λ c. (search refused_answer, search refused_output))
     (λ c. search rules)
-    (λ c. (search found-answer, search found-output)))
+    (λ c. (search found_answer, search found_output)))

@@ -1,7 +1,7 @@
 -- `dump::present` meets its contract: the encoders of the records passed are marked. Assumes nothing.
 use Prim.Native.Nat.{◌-◌}
 use borrow.Author.Rules.{rules}
-use Rattle.dump.proofs.Passes.{Marking, marking, all-marked, marks-wait, pins-encoder, marks-pins}
+use Rattle.dump.proofs.Passes.{Marking, marking, all_marked, marks_wait, pins_encoder, marks_pins}
 use Rattle.dump.proofs.present.Statement.{statement}
 use Rattle.dump.proofs.present.Tie as tie
 
@@ -24,9 +24,9 @@ present-spec =
     (λ c. search rules)
     (λ c. search rules)
     (λ c. search rules)
-    (λ c. search marks-wait)
+    (λ c. search marks_wait)
     (λ c. search rules)
-    (λ c. search pins-encoder)
+    (λ c. search pins_encoder)
     (λ c. search rules)
-    (λ c. search marks-pins)
-    (λ c. search all-marked))
+    (λ c. search marks_pins)
+    (λ c. search all_marked))

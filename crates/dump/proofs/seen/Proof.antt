@@ -1,6 +1,6 @@
 -- `dump::seen` meets its contract. Assumes nothing.
 use borrow.Author.Rules.{rules}
-use Rattle.dump.proofs.Views.{pins-at, ticks-at, none-at}
+use Rattle.dump.proofs.Views.{pins_at, ticks_at, none_at}
 use Rattle.dump.proofs.seen.Statement.{statement}
 use Rattle.dump.proofs.seen.Tie as tie
 
@@ -19,9 +19,9 @@ seen-spec =
     (λ c. search rules)
     (λ c. search rules)
     (λ c κs. search rules)
-    (λ c. search pins-at)
+    (λ c. search pins_at)
     (λ c. search rules)
     (λ c. search rules)
     (λ c κs. search rules)
-    (λ c. search ticks-at)
-    (λ c. search none-at))
+    (λ c. search ticks_at)
+    (λ c. search none_at))

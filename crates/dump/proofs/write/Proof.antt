@@ -1,6 +1,6 @@
 -- `dump::write` meets its contract. Assumes nothing.
 use borrow.Author.Rules.{rules}
-use Rattle.dump.proofs.Passes.{dump-put}
+use Rattle.dump.proofs.Passes.{dump_put}
 use Rattle.dump.proofs.write.Statement.{statement}
 use Rattle.dump.proofs.write.Tie as tie
 
@@ -12,4 +12,4 @@ write_spec =
     (λ c κs. search rules)
     (λ c κs. search rules)
     (λ c. search rules)
-    (λ c. search dump-put))
+    (λ c. search dump_put))

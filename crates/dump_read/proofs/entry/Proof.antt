@@ -1,6 +1,6 @@
 -- `dump_read::entry` meets its contract. Assumes nothing.
 use borrow.Author.Rules.{rules}
-use Rattle.dump_read.proofs.Stores.{entry-is}
+use Rattle.dump_read.proofs.Stores.{entry_is}
 use Rattle.dump_read.proofs.entry.Statement.{statement}
 use Rattle.dump_read.proofs.entry.Tie as tie
 
@@ -15,4 +15,4 @@ entry_spec =
     (λ c. search rules)
     (λ c. search rules)
     (λ c. search rules)
-    (λ c. search entry-is))
+    (λ c. search entry_is))

@@ -1,6 +1,6 @@
 -- `dump_read::put_before` meets its contract. Assumes nothing.
 use borrow.Author.Rules.{rules}
-use Rattle.dump_read.proofs.Stores.{quiet-fixed, quiet-var, quiet-unknown, at-time, quiet-change, quiet-other}
+use Rattle.dump_read.proofs.Stores.{quiet_fixed, quiet_var, quiet_unknown, at_time, quiet_change, quiet_other}
 use Rattle.dump_read.proofs.put_before.Statement.{statement}
 use Rattle.dump_read.proofs.put_before.Tie as tie
 
@@ -15,10 +15,10 @@ put-before-spec =
     (λ c κs. search rules)
     (λ c. search rules)
     (λ c. search rules)
-    (λ c. (search quiet-fixed, search rules))
-    (λ c. (search quiet-var, search rules))
-    (λ c. (search quiet-unknown, search rules))
+    (λ c. (search quiet_fixed, search rules))
+    (λ c. (search quiet_var, search rules))
+    (λ c. (search quiet_unknown, search rules))
     (λ c. search rules)
-    (λ c. (search at-time, search rules))
-    (λ c. (search quiet-change, search rules))
-    (λ c. (search quiet-other, search rules)))
+    (λ c. (search at_time, search rules))
+    (λ c. (search quiet_change, search rules))
+    (λ c. (search quiet_other, search rules)))

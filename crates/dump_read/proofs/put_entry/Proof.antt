@@ -1,6 +1,6 @@
 -- `dump_read::put_entry` meets its contract. Assumes nothing.
 use borrow.Author.Rules.{rules}
-use Rattle.dump_read.proofs.Stores.{entry-none, entry-some}
+use Rattle.dump_read.proofs.Stores.{entry_none, entry_some}
 use Rattle.dump_read.proofs.put_entry.Statement.{statement}
 use Rattle.dump_read.proofs.put_entry.Tie as tie
 
@@ -8,11 +8,11 @@ pub put-entry-spec : {M : Type 1} → statement M
 put-entry-spec =
     tie.close
     (tie.spec
-    (λ c. (search entry-none, search rules))
+    (λ c. (search entry_none, search rules))
     (λ c κs. search rules)
     (λ c. search rules)
     (λ c. search rules)
     (λ c κs. search rules)
     (λ c. search rules)
     (λ c. search rules)
-    (λ c. (search entry-some, search rules)))
+    (λ c. (search entry_some, search rules)))

@@ -5,7 +5,7 @@ use lib.ListN.{take}
 use Rattle.vcd.specs.Entries.{entries_at}
 use Rattle.dump_read.specs.How.{Stored}
 use borrow.Author.Rules.{rules}
-use Rattle.dump_read.proofs.Stores.{stored-long, standing-none, standing-next, standing-done}
+use Rattle.dump_read.proofs.Stores.{stored_long, standing_none, standing_next, standing_done}
 use Rattle.dump_read.proofs.put_standing.Statement.{statement}
 use Rattle.dump_read.proofs.put_standing.Tie as tie
 
@@ -21,12 +21,12 @@ put-standing-spec =
     (tie.spec
     invariant-loop
     decreases-loop
-    (λ c. (omega arith, omega arith, search standing-none))
+    (λ c. (omega arith, omega arith, search standing_none))
     (λ c. search rules)
     (λ c. search rules)
     (λ c κs. search rules)
     (λ c. search rules)
     (λ c. search rules)
-    (λ c. (omega arith, omega arith, search (standing-next, rules)))
-    (λ c. search stored-long)
-    (λ c. (search (standing-done, rules), omega arith)))
+    (λ c. (omega arith, omega arith, search (standing_next, rules)))
+    (λ c. search stored_long)
+    (λ c. (search (standing_done, rules), omega arith)))

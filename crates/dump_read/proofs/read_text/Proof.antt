@@ -3,7 +3,7 @@ use native.Mathlib.Omega.{arith}
 use Prim.Native.Nat.{◌-◌}
 use lib.ListN.{length}
 use borrow.Author.Rules.{rules}
-use Rattle.dump_read.proofs.Texts.{Reading, reading, reads_on, reads-line, read-turned, read_told, read-long}
+use Rattle.dump_read.proofs.Texts.{Reading, reading, reads_on, reads_line, read_turned, read_told, read_long}
 use Rattle.dump_read.proofs.read_text.Statement.{statement}
 use Rattle.dump_read.proofs.read_text.Tie as tie
 
@@ -28,8 +28,8 @@ read-text-spec =
     (λ c κs. (search rules, omega arith))
     (λ c. search rules)
     (λ c. omega arith)
-    (λ c. search reads-line)
+    (λ c. search reads_line)
     (λ c κs. omega arith)
     (λ c κs. search rules)
-    (λ c. search read-long)
-    (λ c. (search read-turned, (search read_told, omega arith))))
+    (λ c. search read_long)
+    (λ c. (search read_turned, (search read_told, omega arith))))

@@ -1,6 +1,6 @@
 -- `dump_read::take_line` meets its contract. Assumes nothing.
 use borrow.Author.Rules.{rules}
-use Rattle.dump_read.proofs.Stores.{line-turn, line-stored}
+use Rattle.dump_read.proofs.Stores.{line_turn_lem, line_stored}
 use Rattle.dump_read.proofs.take_line.Statement.{statement}
 use Rattle.dump_read.proofs.take_line.Tie as tie
 
@@ -12,4 +12,4 @@ take-line-spec =
     (λ c κs. search rules)
     (λ c κs. search rules)
     (λ c. search rules)
-    (λ c. (search line-turn, (search line-stored, search rules))))
+    (λ c. (search line_turn_lem, (search line_stored, search rules))))

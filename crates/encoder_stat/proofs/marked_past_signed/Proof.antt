@@ -3,13 +3,13 @@ use borrow.Author.Rules.{rules}
 use mathlib.Core.Bool.{Bool, cond}
 use Prim.Native.Nat.{◌*◌, ◌/◌, ◌%◌}
 use lib.Bits.{bit_or}
-use Rattle.encoder_stat.specs.Stat.{statOf}
-use Rattle.encoder_stat.proofs.Marks.{by-direction}
+use Rattle.encoder_stat.specs.Stat.{stat_of}
+use Rattle.encoder_stat.proofs.Marks.{by_direction}
 use Rattle.encoder_stat.proofs.marked_past_signed.Statement.{statement}
 use Rattle.encoder_stat.proofs.marked_past_signed.Tie as tie
 
 pub marked-past-signed-spec : {M : Type 1} → statement M
-unfolding statOf
+unfolding stat_of
 marked-past-signed-spec =
     tie.close
     (tie.spec
@@ -17,4 +17,4 @@ marked-past-signed-spec =
     (λ c κs. search rules)
     (λ c. search rules)
     (λ c. search rules)
-    (λ c. by-direction (λ (b : Bool). cond b 2147483648 2147483647) (λ d s. bit_or (bit_or (bit_or (s / 2 * 2) d) 8) (s / 8 % 2 * 32)) tt tt c.before.args.back _ c.number.ensures.0 c.before.args.stat))
+    (λ c. by_direction (λ (b : Bool). cond b 2147483648 2147483647) (λ d s. bit_or (bit_or (bit_or (s / 2 * 2) d) 8) (s / 8 % 2 * 32)) tt tt c.before.args.back _ c.number.ensures.0 c.before.args.stat))

@@ -3,13 +3,13 @@ use borrow.Author.Rules.{rules}
 use mathlib.Core.Bool.{Bool, cond}
 use Prim.Native.Nat.{◌*◌, ◌/◌, ◌%◌}
 use lib.Bits.{bit_or}
-use Rattle.encoder_stat.specs.Stat.{statOf}
-use Rattle.encoder_stat.proofs.Marks.{by-direction}
+use Rattle.encoder_stat.specs.Stat.{stat_of}
+use Rattle.encoder_stat.proofs.Marks.{by_direction}
 use Rattle.encoder_stat.proofs.marked_past_unsigned.Statement.{statement}
 use Rattle.encoder_stat.proofs.marked_past_unsigned.Tie as tie
 
 pub marked-past-unsigned-spec : {M : Type 1} → statement M
-unfolding statOf
+unfolding stat_of
 marked-past-unsigned-spec =
     tie.close
     (tie.spec
@@ -17,4 +17,4 @@ marked-past-unsigned-spec =
     (λ c κs. search rules)
     (λ c. search rules)
     (λ c. search rules)
-    (λ c. by-direction (λ (b : Bool). cond b 0 4294967295) (λ d s. bit_or (bit_or (bit_or (s / 2 * 2) d) 4) (s / 4 % 2 * 16)) tt tt c.before.args.back _ c.number.ensures.0 c.before.args.stat))
+    (λ c. by_direction (λ (b : Bool). cond b 0 4294967295) (λ d s. bit_or (bit_or (bit_or (s / 2 * 2) d) 4) (s / 4 % 2 * 16)) tt tt c.before.args.back _ c.number.ensures.0 c.before.args.stat))

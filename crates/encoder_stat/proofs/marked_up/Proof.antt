@@ -1,6 +1,6 @@
 -- `encoder_stat::marked_up` meets its contract. Assumes nothing.
 use borrow.Author.Rules.{rules}
-use Rattle.encoder_stat.proofs.Steps.{step-at, step-between}
+use Rattle.encoder_stat.proofs.Steps.{step_at, step_between}
 use Rattle.encoder_stat.proofs.marked_up.Statement.{statement}
 use Rattle.encoder_stat.proofs.marked_up.Tie as tie
 
@@ -9,8 +9,8 @@ marked-up-spec =
     tie.close
     (tie.spec
     (λ c κs. search rules)
-    (λ c. search step-at)
+    (λ c. search step_at)
     (λ c κs. search rules)
-    (λ c. search step-at)
+    (λ c. search step_at)
     (λ c κs. search rules)
-    (λ c. search step-between))
+    (λ c. search step_between))

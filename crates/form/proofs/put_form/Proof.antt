@@ -2,7 +2,7 @@
 use Prim.Native.Nat.{◌-◌}
 use native.Mathlib.Omega.{arith}
 use lib.ListN.{length}
-use Rattle.form.proofs.Forms.{Forming, begins, next, same-long, all-formed}
+use Rattle.form.proofs.Forms.{Forming, begins, next, same_long, all_formed}
 use borrow.Author.Rules.{rules}
 use Rattle.form.proofs.put_form.Statement.{statement}
 use Rattle.form.proofs.put_form.Tie as tie
@@ -28,5 +28,5 @@ put-form-spec =
     (λ c. omega arith)
     (λ c. omega arith)
     (λ c. search next)
-    (λ c. search same-long)
-    (λ c. search all-formed))
+    (λ c. search same_long)
+    (λ c. search all_formed))

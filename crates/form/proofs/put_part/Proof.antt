@@ -1,5 +1,5 @@
 -- `form::put_part` meets its contract. Assumes nothing.
-use Rattle.form.proofs.Forms.{part-number, part-sign, part-plural, part-itself}
+use Rattle.form.proofs.Forms.{part_number, part_sign, part_plural, part_itself}
 use borrow.Author.Rules.{rules}
 use Rattle.form.proofs.put_part.Statement.{statement}
 use Rattle.form.proofs.put_part.Tie as tie
@@ -10,13 +10,13 @@ put-part-spec =
     (tie.spec
     (λ c κs. search rules)
     (λ c. search rules)
-    (λ c. search part-number)
+    (λ c. search part_number)
     (λ c κs. search rules)
     (λ c. search rules)
-    (λ c. search part-sign)
+    (λ c. search part_sign)
     (λ c κs. search rules)
     (λ c. search rules)
-    (λ c. search part-plural)
+    (λ c. search part_plural)
     (λ c κs. search rules)
     (λ c. search rules)
-    (λ c. search part-itself))
+    (λ c. search part_itself))

@@ -1,5 +1,5 @@
 use borrow.Author.Rules.{rules}
-use Rattle.i2c_code.proofs.States.{in-idle, in-tx, in-rx}
+use Rattle.i2c_code.proofs.States.{in_idle, in_tx, in_rx}
 use Rattle.i2c_code.proofs.matches.Statement.{statement}
 use Rattle.i2c_code.proofs.matches.Tie as tie
 
@@ -10,6 +10,6 @@ matches-spec =
     (λ c. search rules)
     (λ c. search rules)
     (λ c. search rules)
-    (λ c. search in-idle)
-    (λ c. search in-tx)
-    (λ c. search in-rx))
+    (λ c. search in_idle)
+    (λ c. search in_tx)
+    (λ c. search in_rx))

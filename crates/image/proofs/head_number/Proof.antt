@@ -1,10 +1,10 @@
-use Rattle.image_state.specs.How.{headNumber}
+use Rattle.image_state.specs.How.{head_number}
 use borrow.Author.Rules.{rules}
 use Rattle.image.proofs.head_number.Statement.{statement}
 use Rattle.image.proofs.head_number.Tie as tie
 
 pub head-number-spec : {M : Type 1} → statement M
-unfolding headNumber
+unfolding head_number
 head-number-spec =
     tie.close
     (tie.spec

@@ -1,5 +1,5 @@
 use native.Mathlib.Omega.{arith}
-use Rattle.image.proofs.Whole.{first-room, second-room, all_room, load-done}
+use Rattle.image.proofs.Whole.{first_room, second_room, all_room, load_done}
 use borrow.Author.Rules.{rules}
 use Rattle.image.proofs.load.Statement.{statement}
 use Rattle.image.proofs.load.Tie as tie
@@ -8,9 +8,9 @@ pub load_spec : {M : Type 1} → statement M
 load_spec =
     tie.close
     (tie.spec
-    (λ c κs. search first-room)
+    (λ c κs. search first_room)
     (λ c κs. search all_room)
     (λ c κs. search all_room)
-    (λ c κs. search second-room)
+    (λ c κs. search second_room)
     (λ c. search rules)
-    (λ c. load-done c.before.before.before.before.before.args.s.now _ _ _ _ (λ i. omega (arith, c.before.before.before.before.shared-slice-known.given i)) c.before.before.before.before.before.requires c.before.before.before.le64.ensures c.before.before.load-flat.ensures c.before.load-carried.ensures c.le642.ensures))
+    (λ c. load_done c.before.before.before.before.before.args.s.now _ _ _ _ (λ i. omega (arith, c.before.before.before.before.shared-slice-known.given i)) c.before.before.before.before.before.requires c.before.before.before.le64.ensures c.before.before.load-flat.ensures c.before.load-carried.ensures c.le642.ensures))

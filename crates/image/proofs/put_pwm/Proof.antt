@@ -1,4 +1,4 @@
-use Rattle.image.proofs.Steps.{pwm-put}
+use Rattle.image.proofs.Steps.{pwm_put}
 use borrow.Author.Rules.{rules}
 use Rattle.image.proofs.put_pwm.Statement.{statement}
 use Rattle.image.proofs.put_pwm.Tie as tie
@@ -13,4 +13,4 @@ put-pwm-spec =
     (λ c κs. search rules)
     (λ c κs. search rules)
     (λ c. search rules)
-    (λ c. search pwm-put))
+    (λ c. search pwm_put))

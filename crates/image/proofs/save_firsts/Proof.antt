@@ -1,5 +1,5 @@
-use Rattle.laws.proofs.Each.{long-field}
-use Rattle.image.proofs.Steps.{firsts-put}
+use Rattle.laws.proofs.Each.{long_field}
+use Rattle.image.proofs.Steps.{firsts_put}
 use borrow.Author.Rules.{rules}
 use Rattle.image.proofs.save_firsts.Statement.{statement}
 use Rattle.image.proofs.save_firsts.Tie as tie
@@ -21,4 +21,4 @@ save-firsts-spec =
     (λ c. search rules)
     (λ c.
     let start = c.before.before.before.before.before.before.before.before.before.before.before.before.before.before.before.before.before.before.before.before.before.before.before in
-    (firsts-put start.args.t1 (search rules) (search (long-field, start.well-formed)) _ _ _ _ _ _ _ _ c.before.before.before.before.before.before.before.before.before.before.before.before.before.before.before.before.before.put64.ensures c.before.before.before.before.before.before.before.before.before.before.before.before.put642.ensures c.before.before.before.before.before.before.before.before.i2c-number.ensures c.before.before.before.before.before.before.before.put643.ensures c.before.before.before.i2c-number2.ensures c.before.before.put644.ensures, (search rules, search (long-field, start.well-formed)))))
+    (firsts_put start.args.t1 (search rules) (search (long_field, start.well-formed)) _ _ _ _ _ _ _ _ c.before.before.before.before.before.before.before.before.before.before.before.before.before.before.before.before.before.put64.ensures c.before.before.before.before.before.before.before.before.before.before.before.before.put642.ensures c.before.before.before.before.before.before.before.before.i2c-number.ensures c.before.before.before.before.before.before.before.put643.ensures c.before.before.before.i2c-number2.ensures c.before.before.put644.ensures, (search rules, search (long_field, start.well-formed)))))

@@ -1,4 +1,4 @@
-use Rattle.image_pwm.proofs.Numbers.{registers-tested}
+use Rattle.image_pwm.proofs.Numbers.{registers_tested}
 use Rattle.image_pwm.proofs.is_registers.Statement.{statement}
 use Rattle.image_pwm.proofs.is_registers.Tie as tie
 
@@ -6,4 +6,4 @@ pub is-registers-spec : {M : Type 1} → statement M
 is-registers-spec =
     tie.close
     (tie.spec
-    (λ c. search registers-tested))
+    (λ c. search registers_tested))

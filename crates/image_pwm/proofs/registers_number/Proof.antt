@@ -1,10 +1,10 @@
-use Rattle.image_pwm.specs.How.{registersNumber}
+use Rattle.image_pwm.specs.How.{registers_number}
 use borrow.Author.Rules.{rules}
 use Rattle.image_pwm.proofs.registers_number.Statement.{statement}
 use Rattle.image_pwm.proofs.registers_number.Tie as tie
 
 pub registers-number-spec : {M : Type 1} → statement M
-unfolding registersNumber
+unfolding registers_number
 registers-number-spec =
     tie.close
     (tie.spec

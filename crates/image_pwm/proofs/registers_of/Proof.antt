@@ -1,10 +1,10 @@
-use Rattle.image_pwm.specs.How.{registersOf}
+use Rattle.image_pwm.specs.How.{registers_of}
 use borrow.Author.Rules.{rules}
 use Rattle.image_pwm.proofs.registers_of.Statement.{statement}
 use Rattle.image_pwm.proofs.registers_of.Tie as tie
 
 pub registers-of-spec : {M : Type 1} → statement M
-unfolding registersOf
+unfolding registers_of
 registers-of-spec =
     tie.close
     (tie.spec

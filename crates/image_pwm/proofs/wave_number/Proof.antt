@@ -1,10 +1,10 @@
-use Rattle.image_pwm.specs.How.{waveNumber}
+use Rattle.image_pwm.specs.How.{wave_number}
 use borrow.Author.Rules.{rules}
 use Rattle.image_pwm.proofs.wave_number.Statement.{statement}
 use Rattle.image_pwm.proofs.wave_number.Tie as tie
 
 pub wave-number-spec : {M : Type 1} → statement M
-unfolding waveNumber
+unfolding wave_number
 wave-number-spec =
     tie.close
     (tie.spec

@@ -1,10 +1,10 @@
-use Rattle.image_pwm.specs.How.{waveOf}
+use Rattle.image_pwm.specs.How.{wave_of}
 use borrow.Author.Rules.{rules}
 use Rattle.image_pwm.proofs.wave_of.Statement.{statement}
 use Rattle.image_pwm.proofs.wave_of.Tie as tie
 
 pub wave-of-spec : {M : Type 1} → statement M
-unfolding waveOf
+unfolding wave_of
 wave-of-spec =
     tie.close
     (tie.spec

@@ -1,14 +1,14 @@
 use mathlib.Core.Path.{◌≡◌}
 use Prim.Native.Nat.{◌≤◌, ◌-◌}
-use Rattle.codec.specs.How.{okMany, okWord}
-use Rattle.image_words.specs.How.{isEncoder}
-use Rattle.image_state.proofs.Tests.{test-none, encoders-more, test-all}
+use Rattle.codec.specs.How.{ok_many, ok_word}
+use Rattle.image_words.specs.How.{is_encoder}
+use Rattle.image_state.proofs.Tests.{test_none, encoders_more, test_all}
 use borrow.Author.Rules.{rules}
 use Rattle.image_state.proofs.are_encoders.Statement.{statement}
 use Rattle.image_state.proofs.are_encoders.Tie as tie
 
 abbrev invariant-loop : tie.invariant-loop
-invariant-loop s all₀ i₀ all i = (i ≤ 20) × (all ≡ okMany 8 (okWord isEncoder) i s 64)
+invariant-loop s all₀ i₀ all i = (i ≤ 20) × (all ≡ ok_many 8 (ok_word is_encoder) i s 64)
 
 abbrev decreases-loop : tie.decreases-loop
 decreases-loop s all₀ i₀ all i = 20 - i
@@ -19,12 +19,12 @@ are-encoders-spec =
     (tie.spec
     invariant-loop
     decreases-loop
-    (λ c. (search rules, search test-none))
+    (λ c. (search rules, search test_none))
     (λ c. search rules)
     (λ c. search rules)
     (λ c κs. search rules)
     (λ c κs. search rules)
     (λ c. search rules)
     (λ c. search rules)
-    (λ c. (search rules, encoders-more _ _ _ _ _ c.before.before.before.loop.invariant.1 c.before.le64.ensures c.is-encoder.ensures))
-    (λ c. search test-all))
+    (λ c. (search rules, encoders_more _ _ _ _ _ c.before.before.before.loop.invariant.1 c.before.le64.ensures c.is-encoder.ensures))
+    (λ c. search test_all))

@@ -1,14 +1,14 @@
 use mathlib.Core.Path.{◌≡◌}
 use Prim.Native.Nat.{◌≤◌, ◌-◌}
-use Rattle.codec.specs.How.{okMany}
-use Rattle.image_state.specs.How.{okQuick}
-use Rattle.image_state.proofs.Tests.{test-none, quick-more, test-all}
+use Rattle.codec.specs.How.{ok_many}
+use Rattle.image_state.specs.How.{ok_quick}
+use Rattle.image_state.proofs.Tests.{test_none, quick_more, test_all}
 use borrow.Author.Rules.{rules}
 use Rattle.image_state.proofs.are_short.Statement.{statement}
 use Rattle.image_state.proofs.are_short.Tie as tie
 
 abbrev invariant-loop : tie.invariant-loop
-invariant-loop s all₀ i₀ all i = (i ≤ 40) × (all ≡ okMany 16 okQuick i s 224)
+invariant-loop s all₀ i₀ all i = (i ≤ 40) × (all ≡ ok_many 16 ok_quick i s 224)
 
 abbrev decreases-loop : tie.decreases-loop
 decreases-loop s all₀ i₀ all i = 40 - i
@@ -19,7 +19,7 @@ are-short-spec =
     (tie.spec
     invariant-loop
     decreases-loop
-    (λ c. (search rules, search test-none))
+    (λ c. (search rules, search test_none))
     (λ c. search rules)
     (λ c. search rules)
     (λ c κs. search rules)
@@ -29,5 +29,5 @@ are-short-spec =
     (λ c κs. search rules)
     (λ c. search rules)
     (λ c. search rules)
-    (λ c. (search rules, quick-more _ _ _ _ _ _ c.before.before.before.before.loop.invariant.1 c.before.before.le64.ensures c.before.le642.ensures c.is-short.ensures))
-    (λ c. search test-all))
+    (λ c. (search rules, quick_more _ _ _ _ _ _ c.before.before.before.before.loop.invariant.1 c.before.before.le64.ensures c.before.le642.ensures c.is-short.ensures))
+    (λ c. search test_all))

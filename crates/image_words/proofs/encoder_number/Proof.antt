@@ -1,10 +1,10 @@
-use Rattle.image_words.specs.How.{lowNumber}
+use Rattle.image_words.specs.How.{low_number}
 use borrow.Author.Rules.{rules}
 use Rattle.image_words.proofs.encoder_number.Statement.{statement}
 use Rattle.image_words.proofs.encoder_number.Tie as tie
 
 pub encoder-number-spec : {M : Type 1} → statement M
-unfolding lowNumber
+unfolding low_number
 encoder-number-spec =
     tie.close
     (tie.spec

@@ -1,6 +1,6 @@
 use mathlib.Core.Path.{◌∙◌}
 use mir.Facts.{to_z-of_z}
-use Rattle.image_words.proofs.Numbers.{encoder-made}
+use Rattle.image_words.proofs.Numbers.{encoder_made}
 use borrow.Author.Rules.{rules}
 use Rattle.image_words.proofs.encoder_of.Statement.{statement}
 use Rattle.image_words.proofs.encoder_of.Tie as tie
@@ -14,4 +14,4 @@ encoder-of-spec =
     (λ c. search rules)
     (λ c. search rules)
     (λ c. search rules)
-    (λ c. encoder-made _ _ (to_z-of_z (record { sfits = c.count_of.type-inv }) ∙ c.count_of.ensures)))
+    (λ c. encoder_made _ _ (to_z-of_z (record { sfits = c.count_of.type-inv }) ∙ c.count_of.ensures)))

@@ -1,10 +1,10 @@
-use Rattle.image_words.specs.How.{i2cNumber}
+use Rattle.image_words.specs.How.{i2c_number}
 use borrow.Author.Rules.{rules}
 use Rattle.image_words.proofs.i2c_number.Statement.{statement}
 use Rattle.image_words.proofs.i2c_number.Tie as tie
 
 pub i2c-number-spec : {M : Type 1} → statement M
-unfolding i2cNumber
+unfolding i2c_number
 i2c-number-spec =
     tie.close
     (tie.spec

@@ -1,10 +1,10 @@
-use Rattle.image_words.specs.How.{i2cOf}
+use Rattle.image_words.specs.How.{i2c_of}
 use borrow.Author.Rules.{rules}
 use Rattle.image_words.proofs.i2c_of.Statement.{statement}
 use Rattle.image_words.proofs.i2c_of.Tie as tie
 
 pub i2c-of-spec : {M : Type 1} → statement M
-unfolding i2cOf
+unfolding i2c_of
 i2c-of-spec =
     tie.close
     (tie.spec

@@ -1,4 +1,4 @@
-use Rattle.image_words.proofs.Numbers.{pattern-below}
+use Rattle.image_words.proofs.Numbers.{pattern_below}
 use borrow.Author.Rules.{rules}
 use Rattle.image_words.proofs.pattern.Statement.{statement}
 use Rattle.image_words.proofs.pattern.Tie as tie
@@ -8,4 +8,4 @@ pattern-spec =
     tie.close
     (tie.spec
     (λ c κs. search rules)
-    (λ c. (search rules, search pattern-below)))
+    (λ c. (search rules, search pattern_below)))

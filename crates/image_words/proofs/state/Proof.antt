@@ -1,4 +1,4 @@
-use Rattle.image_words.proofs.Numbers.{state-below}
+use Rattle.image_words.proofs.Numbers.{state_below}
 use borrow.Author.Rules.{rules}
 use Rattle.image_words.proofs.state.Statement.{statement}
 use Rattle.image_words.proofs.state.Tie as tie
@@ -8,4 +8,4 @@ state-spec =
     tie.close
     (tie.spec
     (λ c κs. search rules)
-    (λ c. (search rules, search state-below)))
+    (λ c. (search rules, search state_below)))

@@ -4,7 +4,7 @@ use Prim.Native.Nat.{ℕ}
 use native.Mathlib.Omega.{arith}
 use lib.ListN.{length-replicate}
 use borrow.Author.Rules.{rules}
-use Rattle.judge.proofs.Whole.{refuses, ready, few, no-trailer}
+use Rattle.judge.proofs.Whole.{refuses, ready, few, no_trailer}
 use Rattle.judge.proofs.judge.Statement.{statement}
 use Rattle.judge.proofs.judge.Tie as tie
 
@@ -26,5 +26,5 @@ judge-spec =
     let f = c.before.before.before.before in
     let r = f.before.before.before.before.before.before.replay.ensures in
     ready _ _ (length-replicate {A = ℕ} 16384 0) _ r.0 _ _ _ _ refl f.before.before.before.of_length.ensures f.before.before.first_of.ensures _ _ r.1 f.before.if1.false _ _ _ _ f.find.ensures c.before.before.start.given.1)
-    (λ c. search no-trailer)
+    (λ c. search no_trailer)
     (λ c. search rules))

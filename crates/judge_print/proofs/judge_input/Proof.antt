@@ -1,7 +1,7 @@
 -- `judge_print::judge_input` meets its contract. Assumes nothing.
 use borrow.Author.Rules.{rules}
-use Rattle.printed.proofs.Prints.{put-counts}
-use Rattle.judge_print.proofs.Says.{verdict-counts}
+use Rattle.printed.proofs.Prints.{put_counts}
+use Rattle.judge_print.proofs.Says.{verdict_counts}
 use Rattle.judge_print.proofs.judge_input.Statement.{statement}
 use Rattle.judge_print.proofs.judge_input.Tie as tie
 
@@ -18,7 +18,7 @@ judge-input-spec =
     (λ c. search rules)
     (λ c κs. search rules)
     (λ c. search rules)
-    (λ c. search put-counts)
+    (λ c. search put_counts)
     (λ c. search rules)
     (λ c κs. search rules)
     (λ c κs. search rules)
@@ -30,4 +30,4 @@ judge-input-spec =
     (λ c. search rules)
     (λ c κs. search rules)
     (λ c. search rules)
-    (λ c. search verdict-counts))
+    (λ c. search verdict_counts))

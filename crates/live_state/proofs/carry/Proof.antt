@@ -1,5 +1,5 @@
 use Rattle.std.proofs.Common.{rules}
-use Rattle.live_state.proofs.Steps.{carry-live, carry-good}
+use Rattle.live_state.proofs.Steps.{carry_live, carry_good}
 use Rattle.live_state.proofs.carry.Statement.{statement}
 use Rattle.live_state.proofs.carry.Tie as tie
 
@@ -9,4 +9,4 @@ carry-spec =
     (tie.spec
     (λ c κs. search rules)
     (λ c. search rules)
-    (λ c. (search carry-live, search carry-good)))
+    (λ c. (search carry_live, search carry_good)))

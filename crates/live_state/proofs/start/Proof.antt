@@ -1,5 +1,5 @@
 use Rattle.std.proofs.Common.{rules}
-use Rattle.live_state.proofs.Steps.{start-live, start-good}
+use Rattle.live_state.proofs.Steps.{start_live, start_good}
 use Rattle.live_state.proofs.start.Statement.{statement}
 use Rattle.live_state.proofs.start.Tie as tie
 
@@ -9,4 +9,4 @@ start_spec =
     (tie.spec
     (λ c κs. search rules)
     (λ c κs. search rules)
-    (λ c. (search start-live, search start-good)))
+    (λ c. (search start_live, search start_good)))

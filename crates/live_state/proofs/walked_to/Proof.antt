@@ -1,5 +1,5 @@
 use Rattle.std.proofs.Common.{rules}
-use Rattle.live_state.proofs.Steps.{walked-told}
+use Rattle.live_state.proofs.Steps.{walked_told}
 use Rattle.live_state.proofs.walked_to.Statement.{statement}
 use Rattle.live_state.proofs.walked_to.Tie as tie
 
@@ -8,4 +8,4 @@ walked-to-spec =
     tie.close
     (tie.spec
     (λ c κs. search rules)
-    (λ c. search walked-told))
+    (λ c. search walked_told))

@@ -2,7 +2,7 @@
 use Prim.Native.Nat.{ℕ}
 use lib.ListN.{length-replicate}
 use borrow.Author.Rules.{rules}
-use Rattle.made.proofs.Sources.{refuses, no-trailer, found}
+use Rattle.made.proofs.Sources.{refuses, no_trailer, found}
 use Rattle.made.proofs.source_of.Statement.{statement}
 use Rattle.made.proofs.source_of.Tie as tie
 
@@ -16,5 +16,5 @@ source-of-spec =
     (λ c κs. search rules)
     (λ c. search rules)
     (λ c. search rules)
-    (λ c. search (no-trailer, length-replicate {A = ℕ} 16384 0))
+    (λ c. search (no_trailer, length-replicate {A = ℕ} 16384 0))
     (λ c. search (found, length-replicate {A = ℕ} 16384 0)))

@@ -1,5 +1,5 @@
-use Rattle.placed.proofs.Bounds.{inside-refused}
-use Rattle.placed.proofs.Arms.{refused-arm, passed-arm}
+use Rattle.placed.proofs.Bounds.{inside_refused}
+use Rattle.placed.proofs.Arms.{refused_arm, passed_arm}
 use native.Mathlib.Omega.{arith}
 use borrow.Author.Rules.{rules}
 use Rattle.placed.proofs.place.Statement.{statement}
@@ -11,6 +11,6 @@ place-spec =
     (tie.spec
     (λ c κs. search rules)
     (λ c. search rules)
-    (λ c. (refused-arm _ _ _ _ _ _ c.before.refusal.ensures (λ none. omega (arith, none, c.if1.true)), search inside-refused))
+    (λ c. (refused_arm _ _ _ _ _ _ c.before.refusal.ensures (λ none. omega (arith, none, c.if1.true)), search inside_refused))
     (λ c κs. search rules)
-    (λ c. (search passed-arm, search rules)))
+    (λ c. (search passed_arm, search rules)))

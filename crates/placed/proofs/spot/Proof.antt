@@ -1,6 +1,6 @@
 use Rattle.placed.specs.How.{spot_of}
 use Rattle.placed.proofs.Bounds.{channels, insides}
-use Rattle.placed.proofs.Arms.{spot-arm, reads-arm}
+use Rattle.placed.proofs.Arms.{spot_arm, reads_arm}
 use borrow.Author.Rules.{rules}
 use Rattle.placed.proofs.spot.Statement.{statement}
 use Rattle.placed.proofs.spot.Tie as tie
@@ -32,14 +32,14 @@ spot-spec =
     (λ c. search rules)
     (λ c. search channels)
     (λ c. search rules)
-    (λ c. (search spot-arm, search insides))
-    (λ c. (search spot-arm, search insides))
-    (λ c. (search spot-arm, search insides))
-    (λ c. (search spot-arm, search insides))
-    (λ c. (search spot-arm, search insides))
-    (λ c. (search spot-arm, search insides))
-    (λ c. (search spot-arm, search insides))
-    (λ c. (search spot-arm, search insides))
-    (λ c. (search reads-arm, search insides))
-    (λ c. (search spot-arm, search insides))
-    (λ c. (search spot-arm, search insides)))
+    (λ c. (search spot_arm, search insides))
+    (λ c. (search spot_arm, search insides))
+    (λ c. (search spot_arm, search insides))
+    (λ c. (search spot_arm, search insides))
+    (λ c. (search spot_arm, search insides))
+    (λ c. (search spot_arm, search insides))
+    (λ c. (search spot_arm, search insides))
+    (λ c. (search spot_arm, search insides))
+    (λ c. (search reads_arm, search insides))
+    (λ c. (search spot_arm, search insides))
+    (λ c. (search spot_arm, search insides)))

@@ -1,6 +1,6 @@
 -- `printed::told` meets its contract. Assumes nothing.
 use borrow.Author.Rules.{rules}
-use Rattle.printed.proofs.Ways.{made, of-log, of-record}
+use Rattle.printed.proofs.Ways.{made, of_log, of_record}
 use Rattle.printed.proofs.told.Statement.{statement}
 use Rattle.printed.proofs.told.Tie as tie
 
@@ -11,7 +11,7 @@ told-spec =
     (λ c. search made)
     (λ c κs. search rules)
     (λ c. search rules)
-    (λ c. search of-log)
+    (λ c. search of_log)
     (λ c κs. search rules)
     (λ c. search rules)
-    (λ c. search of-record))
+    (λ c. search of_record))

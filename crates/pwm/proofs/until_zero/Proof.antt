@@ -1,6 +1,6 @@
 use Rattle.std.proofs.Common.{rules}
 use Rattle.laws.proofs.Cases.{cases}
-use Rattle.pwm.proofs.Rounds.{above_on, above-off}
+use Rattle.pwm.proofs.Rounds.{above_on, above_off}
 use Rattle.pwm.proofs.until_zero.Statement.{statement}
 use Rattle.pwm.proofs.until_zero.Tie as tie
 
@@ -10,7 +10,7 @@ until-zero-spec =
     (tie.spec
     (λ c. search rules)
     (λ c. search above_on)
-    (λ c. search above-off)
+    (λ c. search above_off)
     (λ c. search rules)
     (λ c. search rules)
     (λ c. search cases))

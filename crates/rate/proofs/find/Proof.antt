@@ -2,7 +2,7 @@
 use native.Mathlib.Omega.{arith}
 use borrow.Author.Rules.{rules}
 use Rattle.rate.specs.Rate.{outside, loose}
-use Rattle.rate.proofs.Answers.{first_fits, fitting, step-some, undivided-asked, finest-asked}
+use Rattle.rate.proofs.Answers.{first_fits, fitting, step_some, undivided_asked, finest_asked}
 use Rattle.rate.proofs.find.Statement.{statement}
 use Rattle.rate.proofs.find.Tie as tie
 
@@ -14,9 +14,9 @@ find_spec =
     (λ c. outside (λ h. omega arith))
     (λ c. loose (omega arith) (omega arith))
     (λ c. record { fits = search first_fits })
-    (λ c κs. search step-some)
-    (λ c κs. search undivided-asked)
+    (λ c κs. search step_some)
+    (λ c κs. search undivided_asked)
     (λ c. search rules)
     (λ c κs. search fitting)
-    (λ c κs. search finest-asked)
+    (λ c κs. search finest_asked)
     (λ c. search rules))

@@ -2,17 +2,17 @@
 use native.Mathlib.Nat.{le_refl, le_of_lt, le-add_right}
 use borrow.Author.Rules.{rules}
 use Rattle.laws.proofs.Cases.{cases}
-use Rattle.rate_counts.proofs.Fits.{under-fits, high_fits, short-near, over-near, product-fits}
+use Rattle.rate_counts.proofs.Fits.{under_fits, high_fits, short_near, over_near, product_fits}
 use Rattle.rate_counts.proofs.nearer.Statement.{statement}
 use Rattle.rate_counts.proofs.nearer.Tie as tie
 
-ruleset compared = (product-fits, short-near, over-near, le_refl, le-add_right, rules)
+ruleset compared = (product_fits, short_near, over_near, le_refl, le-add_right, rules)
 
 pub nearer-spec : {M : Type 1} → statement M
 nearer-spec =
     tie.close
     (tie.spec
-    (λ c. record { fits = search under-fits })
+    (λ c. record { fits = search under_fits })
     (λ c. search rules)
     (λ c. search rules)
     (λ c. record { fits = search (high_fits, rules) })

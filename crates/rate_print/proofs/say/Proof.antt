@@ -1,6 +1,6 @@
 -- `rate_print::say` meets its contract. Assumes nothing.
 use borrow.Author.Rules.{rules}
-use Rattle.rate_print.proofs.Says.{pair-counts, rate-counts, says-pair, says-rate, says_nothing}
+use Rattle.rate_print.proofs.Says.{pair_counts, rate_counts, says_pair, says_rate, says_nothing}
 use Rattle.rate_print.proofs.say.Statement.{statement}
 use Rattle.rate_print.proofs.say.Tie as tie
 
@@ -14,7 +14,7 @@ say-spec =
     (λ c κs. search rules)
     (λ c. search rules)
     (λ c. search rules)
-    (λ c. (search says-pair, search pair-counts))
+    (λ c. (search says_pair, search pair_counts))
     (λ c. search rules)
-    (λ c. (search says-rate, search rate-counts))
+    (λ c. (search says_rate, search rate_counts))
     (λ c. (search says_nothing, search rules)))

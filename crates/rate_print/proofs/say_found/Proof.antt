@@ -1,7 +1,7 @@
 -- `rate_print::say_found` meets its contract. Assumes nothing.
 use borrow.Author.Rules.{rules}
 use Rattle.printed.proofs.Prints.{arm}
-use Rattle.rate_print.specs.Said.{foundText}
+use Rattle.rate_print.specs.Said.{found_text}
 use Rattle.rate_print.proofs.say_found.Statement.{statement}
 use Rattle.rate_print.proofs.say_found.Tie as tie
 
@@ -15,6 +15,6 @@ say-found-spec =
     (λ c. search rules)
     (λ c κs. search rules)
     (λ c. search rules)
-    (λ c. search (arm foundText))
+    (λ c. search (arm found_text))
     (λ c. search rules)
-    (λ c. search (arm foundText)))
+    (λ c. search (arm found_text)))

@@ -1,6 +1,6 @@
 -- `rate_print::say_rate` meets its contract. Assumes nothing.
 use borrow.Author.Rules.{rules}
-use Rattle.rate_print.proofs.Says.{no-choice, no-x, rated}
+use Rattle.rate_print.proofs.Says.{no_choice, no_x, rated}
 use Rattle.rate_print.proofs.say_rate.Statement.{statement}
 use Rattle.rate_print.proofs.say_rate.Tie as tie
 
@@ -13,13 +13,13 @@ say-rate-spec =
     (λ c. search rules)
     (λ c κs. search rules)
     (λ c. search rules)
-    (λ c. search no-choice)
+    (λ c. search no_choice)
     (λ c. search rules)
     (λ c. search rules)
     (λ c. search rules)
     (λ c κs. search rules)
     (λ c. search rules)
-    (λ c. search no-x)
+    (λ c. search no_x)
     (λ c κs. search rules)
     (λ c κs. search rules)
     (λ c. search rules)

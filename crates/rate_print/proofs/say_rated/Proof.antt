@@ -1,7 +1,7 @@
 -- `rate_print::say_rated` meets its contract. Assumes nothing.
 use borrow.Author.Rules.{rules}
 use Rattle.printed.proofs.Prints.{arm}
-use Rattle.rate_print.specs.Said.{ratedText}
+use Rattle.rate_print.specs.Said.{rated_text}
 use Rattle.rate_print.proofs.say_rated.Statement.{statement}
 use Rattle.rate_print.proofs.say_rated.Tie as tie
 
@@ -15,6 +15,6 @@ say-rated-spec =
     (λ c. search rules)
     (λ c κs. search rules)
     (λ c. search rules)
-    (λ c. search (arm ratedText))
+    (λ c. search (arm rated_text))
     (λ c. search rules)
-    (λ c. search (arm ratedText)))
+    (λ c. search (arm rated_text)))

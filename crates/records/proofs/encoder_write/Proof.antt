@@ -1,10 +1,10 @@
-use Rattle.records.specs.Record.{writeOf}
+use Rattle.records.specs.Record.{write_of}
 use Rattle.laws.proofs.Cases.{cases}
 use Rattle.records.proofs.encoder_write.Statement.{statement}
 use Rattle.records.proofs.encoder_write.Tie as tie
 
 pub encoder-write-spec : {M : Type 1} → statement M
-unfolding writeOf
+unfolding write_of
 encoder-write-spec =
     tie.close
     (tie.spec

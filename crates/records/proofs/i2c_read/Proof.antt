@@ -1,6 +1,6 @@
 use Rattle.records.specs.Record.{read_of}
 use Rattle.laws.proofs.Cases.{cases}
-use Rattle.records.proofs.Laws.{i2c-lists, i2c-listed}
+use Rattle.records.proofs.Laws.{i2c_lists, i2c_listed}
 use borrow.Author.Rules.{rules}
 use Rattle.records.proofs.i2c_read.Statement.{statement}
 use Rattle.records.proofs.i2c_read.Tie as tie
@@ -13,5 +13,5 @@ i2c-read-spec =
     (λ c. search cases)
     (λ c. search cases)
     (λ c κs. search rules)
-    (λ c. search i2c-lists)
-    (λ c. search i2c-listed))
+    (λ c. search i2c_lists)
+    (λ c. search i2c_listed))

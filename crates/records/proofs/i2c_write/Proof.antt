@@ -1,10 +1,10 @@
-use Rattle.records.specs.Record.{writeOf}
+use Rattle.records.specs.Record.{write_of}
 use Rattle.laws.proofs.Cases.{cases}
-use Rattle.records.proofs.Laws.{i2c-fitting}
+use Rattle.records.proofs.Laws.{i2c_fitting}
 use borrow.Author.Rules.{rules}
 use Rattle.records.proofs.i2c_write.Statement.{statement}
 use Rattle.records.proofs.i2c_write.Tie as tie
 
 pub i2c-write-spec : {M : Type 1} → statement M
-unfolding writeOf
-i2c-write-spec = tie.close (tie.spec (λ c. search cases) (λ c. search cases) (λ c κs. search rules) (λ c κs. search rules) (λ c. search i2c-fitting))
+unfolding write_of
+i2c-write-spec = tie.close (tie.spec (λ c. search cases) (λ c. search cases) (λ c κs. search rules) (λ c κs. search rules) (λ c. search i2c_fitting))

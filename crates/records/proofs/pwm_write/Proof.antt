@@ -1,10 +1,10 @@
-use Rattle.records.specs.Record.{writeOf}
+use Rattle.records.specs.Record.{write_of}
 use Rattle.laws.proofs.Cases.{cases}
-use Rattle.records.proofs.Laws.{pwm-fitting}
+use Rattle.records.proofs.Laws.{pwm_fitting}
 use borrow.Author.Rules.{rules}
 use Rattle.records.proofs.pwm_write.Statement.{statement}
 use Rattle.records.proofs.pwm_write.Tie as tie
 
 pub pwm-write-spec : {M : Type 1} → statement M
-unfolding writeOf
-pwm-write-spec = tie.close (tie.spec (λ c. search cases) (λ c. search cases) (λ c κs. search rules) (λ c κs. search rules) (λ c. search pwm-fitting))
+unfolding write_of
+pwm-write-spec = tie.close (tie.spec (λ c. search cases) (λ c. search cases) (λ c κs. search rules) (λ c κs. search rules) (λ c. search pwm_fitting))

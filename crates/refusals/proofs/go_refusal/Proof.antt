@@ -1,4 +1,4 @@
-use Rattle.refusals.proofs.Arms.{go-stops, go-passes, go-barred}
+use Rattle.refusals.proofs.Arms.{go_stops, go_passes, go_barred}
 use borrow.Author.Rules.{rules}
 use Rattle.refusals.proofs.go_refusal.Statement.{statement}
 use Rattle.refusals.proofs.go_refusal.Tie as tie
@@ -9,6 +9,6 @@ go-refusal-spec =
     (tie.spec
     (λ c κs. search rules)
     (λ c κs. search rules)
-    (λ c. search go-barred)
-    (λ c. search go-passes)
-    (λ c. search go-stops))
+    (λ c. search go_barred)
+    (λ c. search go_passes)
+    (λ c. search go_stops))

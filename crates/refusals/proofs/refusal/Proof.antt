@@ -1,12 +1,12 @@
 use mathlib.Core.Path.{refl}
-use Rattle.refusals.specs.How.{refusalOf}
-use Rattle.refusals.proofs.Arms.{refusal-arm, refusal-routed, refusal-cnfg, refusal-i2c}
+use Rattle.refusals.specs.How.{refusal_of}
+use Rattle.refusals.proofs.Arms.{refusal_arm, refusal_routed, refusal_cnfg, refusal_i2c}
 use borrow.Author.Rules.{rules}
 use Rattle.refusals.proofs.refusal.Statement.{statement}
 use Rattle.refusals.proofs.refusal.Tie as tie
 
 pub refusal-spec : {M : Type 1} → statement M
-unfolding refusalOf
+unfolding refusal_of
 refusal-spec =
     tie.close
     (tie.spec
@@ -32,14 +32,14 @@ refusal-spec =
     (λ c κs. search rules)
     (λ c κs. search rules)
     (λ c. search rules)
-    (λ c. search refusal-arm)
-    (λ c. search (refusal-cnfg, refl))
-    (λ c. search (refusal-routed, refl))
-    (λ c. search (refusal-i2c, refl))
-    (λ c. search (refusal-routed, refl))
-    (λ c. search refusal-arm)
-    (λ c. search refusal-arm)
-    (λ c. search refusal-arm)
-    (λ c. search refusal-arm)
-    (λ c. search (refusal-routed, refl))
-    (λ c. search refusal-arm))
+    (λ c. search refusal_arm)
+    (λ c. search (refusal_cnfg, refl))
+    (λ c. search (refusal_routed, refl))
+    (λ c. search (refusal_i2c, refl))
+    (λ c. search (refusal_routed, refl))
+    (λ c. search refusal_arm)
+    (λ c. search refusal_arm)
+    (λ c. search refusal_arm)
+    (λ c. search refusal_arm)
+    (λ c. search (refusal_routed, refl))
+    (λ c. search refusal_arm))

@@ -1,6 +1,6 @@
 -- `replay_print::replay_input` meets its contract. Assumes nothing.
 use borrow.Author.Rules.{rules}
-use Rattle.printed.proofs.Prints.{put-counts}
+use Rattle.printed.proofs.Prints.{put_counts}
 use Rattle.replay_print.proofs.replay_input.Statement.{statement}
 use Rattle.replay_print.proofs.replay_input.Tie as tie
 
@@ -14,4 +14,4 @@ replay-input-spec =
     (λ c. search rules)
     (λ c κs. search rules)
     (λ c. search rules)
-    (λ c. search put-counts))
+    (λ c. search put_counts))

@@ -6,7 +6,7 @@ use mathlib.Core.Path.{sym}
 use Prim.Native.Nat.{ℕ}
 use lib.Seq.{length-take-le}
 use Rattle.judge.proofs.Whole.{few}
-use Rattle.replay_print.proofs.Says.{said, room-enough}
+use Rattle.replay_print.proofs.Says.{said, room_enough}
 use Rattle.replay_print.proofs.replay_log.Statement.{statement}
 use Rattle.replay_print.proofs.replay_log.Tie as tie
 
@@ -22,4 +22,4 @@ replay-log-spec =
     (λ c. search rules)
     (λ c κs. search rules)
     (λ c. search rules)
-    (λ c. let r = c.before.before.before.before.before.before.before.before.replay.ensures in (said _ _ _ _ _ r.0 r.1 (length-replicate {A = ℕ} 16384 0) _ _ _ c.before.before.replay-text.ensures, room-enough _ _ _ _ _ r.0 r.1 (length-replicate {A = ℕ} 16384 0) (search rules) (search rules) (search rules))))
+    (λ c. let r = c.before.before.before.before.before.before.before.before.replay.ensures in (said _ _ _ _ _ r.0 r.1 (length-replicate {A = ℕ} 16384 0) _ _ _ c.before.before.replay-text.ensures, room_enough _ _ _ _ _ r.0 r.1 (length-replicate {A = ℕ} 16384 0) (search rules) (search rules) (search rules))))

@@ -1,6 +1,6 @@
 -- `rvz::print` meets its contract. Assumes nothing.
 use borrow.Author.Rules.{rules}
-use Rattle.rvz.proofs.Says.{plain-counts, plain-put}
+use Rattle.rvz.proofs.Says.{plain_counts, plain_put}
 use Rattle.rvz.proofs.print.Statement.{statement}
 use Rattle.rvz.proofs.print.Tie as tie
 
@@ -36,22 +36,22 @@ print-spec =
     (λ c κs. search rules)
     (λ c κs. search rules)
     (λ c. search rules)
-    (λ c. search plain-counts)
+    (λ c. search plain_counts)
     (λ c. search rules)
     (λ c. search rules)
     (λ c. search rules)
     (λ c. search rules)
     (λ c. search rules)
-    (λ c. search plain-counts)
+    (λ c. search plain_counts)
     (λ c. search rules)
-    (λ c. search plain-counts)
-    (λ c. search rules)
-    (λ c. search rules)
+    (λ c. search plain_counts)
     (λ c. search rules)
     (λ c. search rules)
     (λ c. search rules)
-    (λ c. search plain-counts)
     (λ c. search rules)
-    (λ c. search plain-put)
     (λ c. search rules)
-    (λ c. search plain-counts))
+    (λ c. search plain_counts)
+    (λ c. search rules)
+    (λ c. search plain_put)
+    (λ c. search rules)
+    (λ c. search plain_counts))

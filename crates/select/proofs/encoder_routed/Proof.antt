@@ -1,8 +1,8 @@
-use Rattle.select.proofs.Ports.{port-encoder, pins-encoder, pins-no-encoder}
+use Rattle.select.proofs.Ports.{port_encoder, pins_encoder, pins_no_encoder}
 use borrow.Author.Rules.{rules}
 use Rattle.select.proofs.encoder_routed.Statement.{statement}
 use Rattle.select.proofs.encoder_routed.Tie as tie
 
 pub encoder-routed-spec : {M : Type 1} → statement M
 encoder-routed-spec =
-    tie.close (tie.spec (λ c. search port-encoder) (λ c. search rules) (λ c. search rules) (λ c. search pins-encoder) (λ c. search pins-no-encoder))
+    tie.close (tie.spec (λ c. search port_encoder) (λ c. search rules) (λ c. search rules) (λ c. search pins_encoder) (λ c. search pins_no_encoder))

@@ -1,7 +1,7 @@
-use Rattle.select.proofs.Ports.{port-pwm, pins-pwm}
+use Rattle.select.proofs.Ports.{port_pwm, pins_pwm}
 use borrow.Author.Rules.{rules}
 use Rattle.select.proofs.pwm_routed.Statement.{statement}
 use Rattle.select.proofs.pwm_routed.Tie as tie
 
 pub pwm-routed-spec : {M : Type 1} → statement M
-pwm-routed-spec = tie.close (tie.spec (λ c κs. search rules) (λ c. search port-pwm) (λ c κs. search rules) (λ c. search pins-pwm))
+pwm-routed-spec = tie.close (tie.spec (λ c κs. search rules) (λ c. search port_pwm) (λ c κs. search rules) (λ c. search pins_pwm))

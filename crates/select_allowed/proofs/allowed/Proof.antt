@@ -1,8 +1,8 @@
-use Rattle.select_allowed.proofs.Pins.{port-allowed}
-use Rattle.select_allowed.proofs.Quick.{fits, pins-allowed}
+use Rattle.select_allowed.proofs.Pins.{port_allowed}
+use Rattle.select_allowed.proofs.Quick.{fits, pins_allowed}
 use borrow.Author.Rules.{rules}
 use Rattle.select_allowed.proofs.allowed.Statement.{statement}
 use Rattle.select_allowed.proofs.allowed.Tie as tie
 
 pub allowed-spec : {M : Type 1} → statement M
-allowed-spec = tie.close (tie.spec (λ c. search port-allowed) (λ c κs. search rules) (λ c κs. search rules) (λ c. search fits) (λ c. search pins-allowed))
+allowed-spec = tie.close (tie.spec (λ c. search port_allowed) (λ c κs. search rules) (λ c κs. search rules) (λ c. search fits) (λ c. search pins_allowed))

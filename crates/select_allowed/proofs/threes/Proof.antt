@@ -1,6 +1,6 @@
-use Rattle.select_allowed.proofs.Marks.{threes-found}
+use Rattle.select_allowed.proofs.Marks.{threes_found}
 use Rattle.select_allowed.proofs.threes.Statement.{statement}
 use Rattle.select_allowed.proofs.threes.Tie as tie
 
 pub threes-spec : {M : Type 1} → statement M
-threes-spec = tie.close (tie.spec (λ c. search threes-found))
+threes-spec = tie.close (tie.spec (λ c. search threes_found))

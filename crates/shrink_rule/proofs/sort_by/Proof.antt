@@ -1,11 +1,11 @@
 -- `shrink_rule::sort_by` meets its contract. Assumes nothing.
 use Rattle.laws.proofs.Cases.{cases}
-use Rattle.shrink_rule.specs.How.{sortBy}
+use Rattle.shrink_rule.specs.How.{sort_by}
 use Rattle.shrink_rule.proofs.sort_by.Statement.{statement}
 use Rattle.shrink_rule.proofs.sort_by.Tie as tie
 
 pub sort-by-spec : {M : Type 1} → statement M
-unfolding sortBy
+unfolding sort_by
 sort-by-spec =
     tie.close
     (tie.spec

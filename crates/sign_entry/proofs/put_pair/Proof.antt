@@ -1,5 +1,5 @@
 -- `sign_entry::put_pair` meets its contract. Assumes nothing.
-use Rattle.sign_entry.proofs.Bytes.{two-eights}
+use Rattle.sign_entry.proofs.Bytes.{two_eights}
 use Rattle.std.proofs.Common.{rules}
 use Rattle.sign_entry.proofs.put_pair.Statement.{statement}
 use Rattle.sign_entry.proofs.put_pair.Tie as tie
@@ -12,4 +12,4 @@ put-pair-spec =
     (λ c. search rules)
     (λ c κs. search rules)
     (λ c. search rules)
-    (λ c. search two-eights))
+    (λ c. search two_eights))

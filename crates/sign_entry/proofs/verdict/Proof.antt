@@ -1,5 +1,5 @@
 -- `sign_entry::verdict` meets its contract. Assumes nothing.
-use Rattle.sign_entry.proofs.Bytes.{goes-ahead, goes_back, is-still, is_open}
+use Rattle.sign_entry.proofs.Bytes.{goes_ahead, goes_back, is_still, is_open}
 use Rattle.std.proofs.Common.{rules}
 use Rattle.sign_entry.proofs.verdict.Statement.{statement}
 use Rattle.sign_entry.proofs.verdict.Tie as tie
@@ -10,9 +10,9 @@ verdict-spec =
     (tie.spec
     (λ c. search rules)
     (λ c. search rules)
-    (λ c. search goes-ahead)
+    (λ c. search goes_ahead)
     (λ c. search rules)
     (λ c. search rules)
     (λ c. search goes_back)
-    (λ c. search is-still)
+    (λ c. search is_still)
     (λ c. search is_open))

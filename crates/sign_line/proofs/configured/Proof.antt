@@ -1,6 +1,6 @@
 -- `sign_line::configured` meets its contract. Assumes nothing.
 use borrow.Author.Rules.{rules}
-use Rattle.sign_line.proofs.Laws.{configured-is}
+use Rattle.sign_line.proofs.Laws.{configured_is}
 use Rattle.sign_line.proofs.configured.Statement.{statement}
 use Rattle.sign_line.proofs.configured.Tie as tie
 
@@ -9,4 +9,4 @@ configured-spec =
     tie.close
     (tie.spec
     (λ c κs. search rules)
-    (λ c. search configured-is))
+    (λ c. search configured_is))

@@ -1,5 +1,5 @@
 -- `sign_line::encoder_named` meets its contract. Assumes nothing.
-use Rattle.sign_line.proofs.Laws.{encoder-at}
+use Rattle.sign_line.proofs.Laws.{encoder_at_lem}
 use borrow.Author.Rules.{rules}
 use Rattle.sign_line.proofs.encoder_named.Statement.{statement}
 use Rattle.sign_line.proofs.encoder_named.Tie as tie
@@ -16,4 +16,4 @@ encoder-named-spec =
     (λ c. search rules)
     (λ c κs. search rules)
     (λ c. search rules)
-    (λ c. search encoder-at))
+    (λ c. search encoder_at_lem))

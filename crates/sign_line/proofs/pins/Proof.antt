@@ -1,6 +1,6 @@
 -- `sign_line::pins` meets its contract. Assumes nothing.
 use borrow.Author.Rules.{rules}
-use Rattle.sign_line.proofs.Laws.{pins-at}
+use Rattle.sign_line.proofs.Laws.{pins_at}
 use Rattle.sign_line.proofs.pins.Statement.{statement}
 use Rattle.sign_line.proofs.pins.Tie as tie
 
@@ -10,4 +10,4 @@ pins-spec =
     (tie.spec
     (λ c. search rules)
     (λ c. search rules)
-    (λ c. search pins-at))
+    (λ c. search pins_at))

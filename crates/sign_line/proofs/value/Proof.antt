@@ -1,6 +1,6 @@
 -- `sign_line::value` meets its contract. Assumes nothing.
 use borrow.Author.Rules.{rules}
-use Rattle.sign_line.proofs.Laws.{value-at}
+use Rattle.sign_line.proofs.Laws.{value_at}
 use Rattle.sign_line.proofs.value.Statement.{statement}
 use Rattle.sign_line.proofs.value.Tie as tie
 
@@ -10,4 +10,4 @@ value_spec =
     (tie.spec
     (λ c. search rules)
     (λ c κs. search rules)
-    (λ c. search value-at))
+    (λ c. search value_at))

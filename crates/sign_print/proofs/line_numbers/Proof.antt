@@ -1,5 +1,5 @@
 -- `sign_print::line_numbers` meets its contract. Assumes nothing.
-use Rattle.sign_print.proofs.Words.{its-numbers}
+use Rattle.sign_print.proofs.Words.{its_numbers}
 use Rattle.std.proofs.Common.{rules}
 use Rattle.sign_print.proofs.line_numbers.Statement.{statement}
 use Rattle.sign_print.proofs.line_numbers.Tie as tie
@@ -15,4 +15,4 @@ line-numbers-spec =
     (λ c κs. search rules)
     (λ c κs. search rules)
     (λ c κs. search rules)
-    (λ c. search (its-numbers, rules)))
+    (λ c. search (its_numbers, rules)))

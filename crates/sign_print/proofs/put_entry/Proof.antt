@@ -1,6 +1,6 @@
 -- `sign_print::put_entry` meets its contract. Assumes nothing.
 use Rattle.std.proofs.Common.{rules}
-use Rattle.sign_print.proofs.Words.{entry-spelt}
+use Rattle.sign_print.proofs.Words.{entry_spelt}
 use Rattle.sign_print.proofs.put_entry.Statement.{statement}
 use Rattle.sign_print.proofs.put_entry.Tie as tie
 
@@ -17,4 +17,4 @@ put-entry-spec =
     (λ c κs. search rules)
     (λ c κs. search rules)
     (λ c. search rules)
-    (λ c. search entry-spelt))
+    (λ c. search entry_spelt))

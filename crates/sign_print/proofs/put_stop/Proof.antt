@@ -1,5 +1,5 @@
 -- `sign_print::put_stop` meets its contract. Assumes nothing.
-use Rattle.sign_print.proofs.Saying.{stop-said, stop-short}
+use Rattle.sign_print.proofs.Saying.{stop_said, stop_short}
 use Rattle.std.proofs.Common.{rules}
 use Rattle.sign_print.proofs.put_stop.Statement.{statement}
 use Rattle.sign_print.proofs.put_stop.Tie as tie
@@ -14,4 +14,4 @@ put-stop-spec =
     (λ c. search rules)
     (λ c κs. search rules)
     (λ c. search rules)
-    (λ c. (search stop-said, stop-short _ _ c.before.before.before.before.before.before.before.replayed.ensures (search rules) (search rules))))
+    (λ c. (search stop_said, stop_short _ _ c.before.before.before.before.before.before.before.replayed.ensures (search rules) (search rules))))

@@ -1,5 +1,5 @@
 -- `sign_print::put_stretch` meets its contract. Assumes nothing.
-use Rattle.sign_print.proofs.Words.{all-spelt}
+use Rattle.sign_print.proofs.Words.{all_spelt}
 use Rattle.std.proofs.Common.{rules}
 use Rattle.sign_print.proofs.put_stretch.Statement.{statement}
 use Rattle.sign_print.proofs.put_stretch.Tie as tie
@@ -15,4 +15,4 @@ put-stretch-spec =
     (λ c κs. search rules)
     (λ c κs. search rules)
     (λ c. search rules)
-    (λ c. search all-spelt))
+    (λ c. search all_spelt))

@@ -1,6 +1,6 @@
 -- `sign_print::put_stretches` meets its contract: the lines of the entries passed stand in the text. Assumes nothing.
 use Rattle.std.proofs.Common.{◌-◌, arith}
-use Rattle.sign_print.proofs.Saying.{Saying, begins, same-long, here, next, all_said}
+use Rattle.sign_print.proofs.Saying.{Saying, begins, same_long, here, next, all_said}
 use Rattle.sign_print.proofs.put_stretches.Statement.{statement}
 use Rattle.sign_print.proofs.put_stretches.Tie as tie
 
@@ -22,5 +22,5 @@ put-stretches-spec =
     (λ c. omega arith)
     (λ c. omega arith)
     (λ c. search next)
-    (λ c. search same-long)
+    (λ c. search same_long)
     (λ c. search all_said))

@@ -1,5 +1,5 @@
 -- `sign_print::put_verdict` meets its contract. Assumes nothing.
-use Rattle.sign_print.proofs.Words.{words-start, words-end, verdict-put}
+use Rattle.sign_print.proofs.Words.{words_start, words_end, verdict_put}
 use Rattle.std.proofs.Common.{rules}
 use Rattle.sign_print.proofs.put_verdict.Statement.{statement}
 use Rattle.sign_print.proofs.put_verdict.Tie as tie
@@ -13,10 +13,10 @@ put-verdict-spec =
     (λ c. search rules)
     (λ c κs. search rules)
     (λ c κs. search rules)
-    (λ c. search words-start)
-    (λ c. search words-start)
-    (λ c. search words-end)
+    (λ c. search words_start)
+    (λ c. search words_start)
+    (λ c. search words_end)
     (λ c. search rules)
     (λ c κs. search rules)
     (λ c. search rules)
-    (λ c. search verdict-put))
+    (λ c. search verdict_put))

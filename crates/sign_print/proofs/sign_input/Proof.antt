@@ -1,6 +1,6 @@
 -- `sign_print::sign_input` meets its contract. Assumes nothing.
 use Rattle.std.proofs.Common.{rules}
-use Rattle.sign_print.proofs.Saying.{put-counts}
+use Rattle.sign_print.proofs.Saying.{put_counts}
 use Rattle.sign_print.proofs.sign_input.Statement.{statement}
 use Rattle.sign_print.proofs.sign_input.Tie as tie
 
@@ -14,4 +14,4 @@ sign-input-spec =
     (λ c. search rules)
     (λ c κs. search rules)
     (λ c. search rules)
-    (λ c. search put-counts))
+    (λ c. search put_counts))

@@ -2,7 +2,7 @@
 use Rattle.std.proofs.Common.{ℕ, replicate, rules}
 use lib.ListN.{length-replicate}
 use Rattle.decimal.proofs.Puts.{put_then}
-use Rattle.sign_print.proofs.Saying.{all-entries, text-long}
+use Rattle.sign_print.proofs.Saying.{all_entries, text_long}
 use Rattle.sign_print.proofs.sign_log.Statement.{statement}
 use Rattle.sign_print.proofs.sign_log.Tie as tie
 
@@ -13,7 +13,7 @@ sign-log-spec =
     (λ c. search rules)
     (λ c κs. search rules)
     (λ c. search rules)
-    (λ c κs. let r = c.before.before.before.sign.ensures in all-entries _ (replicate 65504 0) (length-replicate {A = ℕ} 65504 0) _ _ r.0 r.1)
+    (λ c κs. let r = c.before.before.before.sign.ensures in all_entries _ (replicate 65504 0) (length-replicate {A = ℕ} 65504 0) _ _ r.0 r.1)
     (λ c κs. search rules)
     (λ c. search rules)
-    (λ c. (search put_then, search text-long)))
+    (λ c. (search put_then, search text_long)))

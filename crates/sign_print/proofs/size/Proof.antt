@@ -1,5 +1,5 @@
 -- `sign_print::size` meets its contract. Assumes nothing.
-use Rattle.sign_print.proofs.Words.{size-up, size-down}
+use Rattle.sign_print.proofs.Words.{size_up, size_down}
 use Rattle.std.proofs.Common.{rules}
 use Rattle.sign_print.proofs.size.Statement.{statement}
 use Rattle.sign_print.proofs.size.Tie as tie
@@ -8,7 +8,7 @@ pub size-spec : {M : Type 1} → statement M
 size-spec =
     tie.close
     (tie.spec
-    (λ c. search size-up)
+    (λ c. search size_up)
     (λ c. search rules)
     (λ c. search rules)
-    (λ c. search size-down))
+    (λ c. search size_down))

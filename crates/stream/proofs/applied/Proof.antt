@@ -2,7 +2,7 @@
 use mathlib.Core.Path.{refl}
 use mathlib.Core.Logic.{inr}
 use borrow.Author.Rules.{rules}
-use Rattle.stream.proofs.Ways.{long, applied-told, nothing}
+use Rattle.stream.proofs.Ways.{long, applied_told, nothing}
 use Rattle.stream.proofs.applied.Statement.{statement}
 use Rattle.stream.proofs.applied.Tie as tie
 
@@ -12,5 +12,5 @@ applied-spec =
     (tie.spec
     (λ c κs. search rules)
     (λ c κs. search long)
-    (λ c. search applied-told)
+    (λ c. search applied_told)
     (λ c. inr (search nothing, refl)))

@@ -2,7 +2,7 @@
 use mathlib.Core.Path.{refl}
 use mathlib.Core.Logic.{inr}
 use borrow.Author.Rules.{rules}
-use Rattle.stream.proofs.Ways.{is_state, has-size, saves, tells, keeps, output, nothing}
+use Rattle.stream.proofs.Ways.{is_state, has_size, saves, tells, keeps, output, nothing}
 use Rattle.stream.proofs.chunk.Statement.{statement}
 use Rattle.stream.proofs.chunk.Tie as tie
 
@@ -13,7 +13,7 @@ chunk-spec =
     (λ c κs. search rules)
     (λ c κs. search is_state)
     (λ c κs. search rules)
-    (λ c κs. (search has-size, search (saves, c.before.before.before.before.before.before.before.before.before.before.before.before.before.slice-known.given, c.before.before.before.before.before.before.before.before.before.before.before.before.shared-slice-known.given)))
+    (λ c κs. (search has_size, search (saves, c.before.before.before.before.before.before.before.before.before.before.before.before.before.slice-known.given, c.before.before.before.before.before.before.before.before.before.before.before.before.shared-slice-known.given)))
     (λ c. search rules)
     (λ c. search rules)
     (λ c.

@@ -1,6 +1,6 @@
 -- `stream::start` meets its contract. Assumes nothing.
 use borrow.Author.Rules.{rules}
-use Rattle.stream.proofs.Ways.{short, short-left, fresh-saves, starts, started, no-edition, no-edition-left}
+use Rattle.stream.proofs.Ways.{short, short_left, fresh_saves, starts, started, no_edition_lem, no_edition_left}
 use Rattle.stream.proofs.start.Statement.{statement}
 use Rattle.stream.proofs.start.Tie as tie
 
@@ -9,9 +9,9 @@ start_spec =
     tie.close
     (tie.spec
     (λ c κs. search rules)
-    (λ c. (search short, search short-left))
+    (λ c. (search short, search short_left))
     (λ c κs. search rules)
-    (λ c κs. (search rules, search fresh-saves))
+    (λ c κs. (search rules, search fresh_saves))
     (λ c. search rules)
     (λ c. (search starts, search started))
-    (λ c. (search no-edition, search no-edition-left)))
+    (λ c. (search no_edition_lem, search no_edition_left)))

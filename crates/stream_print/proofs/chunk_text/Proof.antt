@@ -1,6 +1,6 @@
 -- `stream_print::chunk_text` meets its contract. Assumes nothing.
 use borrow.Author.Rules.{rules}
-use Rattle.stream_print.proofs.Shows.{after, readings-fit, inside, front, shown, shown-short, ready-after}
+use Rattle.stream_print.proofs.Shows.{after, readings_fit, inside, front, shown, shown_short, ready_after}
 use Rattle.stream_print.proofs.chunk_text.Statement.{statement}
 use Rattle.stream_print.proofs.chunk_text.Tie as tie
 
@@ -10,9 +10,9 @@ chunk-text-spec =
     (tie.spec
     (λ c. search rules)
     (λ c κs. search rules)
-    (λ c. record { fits = search readings-fit })
+    (λ c. record { fits = search readings_fit })
     (λ c. search inside)
     (λ c. search front)
     (λ c κs. search rules)
     (λ c. search rules)
-    (λ c. (search after, (search shown, (search shown-short, search ready-after)))))
+    (λ c. (search after, (search shown, (search shown_short, search ready_after)))))

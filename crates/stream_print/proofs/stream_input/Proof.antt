@@ -1,7 +1,7 @@
 -- `stream_print::stream_input` meets its contract. Assumes nothing.
 use borrow.Author.Rules.{rules}
-use Rattle.printed.proofs.Prints.{put-counts}
-use Rattle.stream_print.proofs.Shows.{ready-first}
+use Rattle.printed.proofs.Prints.{put_counts}
+use Rattle.stream_print.proofs.Shows.{ready_first}
 use Rattle.stream_print.proofs.stream_input.Statement.{statement}
 use Rattle.stream_print.proofs.stream_input.Tie as tie
 
@@ -20,13 +20,13 @@ stream-input-spec =
     (λ c. search rules)
     (λ c κs. search rules)
     (λ c. search rules)
-    (λ c. search put-counts)
+    (λ c. search put_counts)
     (λ c κs. search rules)
     (λ c κs. search rules)
     (λ c. search rules)
-    (λ c. search put-counts)
+    (λ c. search put_counts)
     (λ c κs. search rules)
-    (λ c κs. search ready-first)
+    (λ c κs. search ready_first)
     (λ c κs. search rules)
     (λ c. search rules)
-    (λ c. search put-counts))
+    (λ c. search put_counts))

@@ -5,7 +5,7 @@ use native.Mathlib.Omega.{arith}
 use lib.ListN.{length, take, length-set}
 use borrow.Author.Rules.{rules}
 use Rattle.decimal.specs.Put.{Put}
-use Rattle.text.proofs.Lines.{copy-none, copy_more, copy-all}
+use Rattle.text.proofs.Lines.{copy_none, copy_more, copy_all}
 use Rattle.text.proofs.copy.Statement.{statement}
 use Rattle.text.proofs.copy.Tie as tie
 
@@ -21,7 +21,7 @@ copy_spec =
     (tie.spec
     invariant-loop
     decreases-loop
-    (λ c. (omega arith, search rules, search copy-none))
+    (λ c. (omega arith, search rules, search copy_none))
     (λ c. search rules)
     (λ c. search rules)
     (λ c. search rules)
@@ -30,4 +30,4 @@ copy_spec =
     (λ c. (search rules, search (rules, length-set), search (rules, copy_more)))
     (λ c. search rules)
     (λ c. search rules)
-    (λ c. search copy-all))
+    (λ c. search copy_all))

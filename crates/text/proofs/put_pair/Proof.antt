@@ -1,7 +1,7 @@
 -- `text::put_pair` meets its contract. Assumes nothing.
 use borrow.Author.Rules.{rules}
-use Rattle.decimal.specs.Digits.{digitsOf}
-use Rattle.text.proofs.Lines.{put-line}
+use Rattle.decimal.specs.Digits.{digits_of}
+use Rattle.text.proofs.Lines.{put_line}
 use Rattle.text.proofs.put_pair.Statement.{statement}
 use Rattle.text.proofs.put_pair.Tie as tie
 
@@ -12,4 +12,4 @@ put-pair-spec =
     (λ c κs. search rules)
     (λ c κs. search rules)
     (λ c. search rules)
-    (λ c. let a = c.before.before.before.before.before.before.before.before.before.before.before.args in search (put-line a.second.now (digitsOf a.b))))
+    (λ c. let a = c.before.before.before.before.before.before.before.before.before.before.before.args in search (put_line a.second.now (digits_of a.b))))

@@ -1,7 +1,7 @@
 -- `text::put_word` meets its contract. Assumes nothing.
 use borrow.Author.Rules.{rules}
 use Rattle.decimal.proofs.Puts.{put_full}
-use Rattle.text.proofs.Lines.{cut-count, cut-room, word_cut}
+use Rattle.text.proofs.Lines.{cut_count, cut_room, word_cut}
 use Rattle.text.proofs.put_word.Statement.{statement}
 use Rattle.text.proofs.put_word.Tie as tie
 
@@ -14,7 +14,7 @@ put-word-spec =
     (λ c κs. search rules)
     (λ c. search rules)
     (λ c. search rules)
-    (λ c. search cut-count)
-    (λ c κs. search cut-room)
+    (λ c. search cut_count)
+    (λ c κs. search cut_room)
     (λ c. search rules)
     (λ c. search word_cut))

@@ -3,14 +3,14 @@ use Prim.Native.Nat.{◌-◌, ◌≤◌}
 use native.Mathlib.Omega.{arith}
 use borrow.Author.Rules.{rules}
 use Rattle.decimal.specs.Put.{Put}
-use Rattle.decimal.proofs.Puts.{put-long}
-use Rattle.text.specs.Text.{lines_of, numbersIn}
-use Rattle.text_readings.proofs.Readings.{readings-none, readings-more, readings-all}
+use Rattle.decimal.proofs.Puts.{put_long}
+use Rattle.text.specs.Text.{lines_of, numbers_in}
+use Rattle.text_readings.proofs.Readings.{readings_none, readings_more, readings_all}
 use Rattle.text_readings.proofs.put_readings.Statement.{statement}
 use Rattle.text_readings.proofs.put_readings.Tie as tie
 
 abbrev invariant-loop : tie.invariant-loop
-invariant-loop out₀ readings n end₀ i₀ out end i = (i ≤ n) × Put out₀ 0 (lines_of (numbersIn i readings)) out end
+invariant-loop out₀ readings n end₀ i₀ out end i = (i ≤ n) × Put out₀ 0 (lines_of (numbers_in i readings)) out end
 
 abbrev decreases-loop : tie.decreases-loop
 decreases-loop out₀ readings n end₀ i₀ out end i = n - i
@@ -21,10 +21,10 @@ put-readings-spec =
     (tie.spec
     invariant-loop
     decreases-loop
-    (λ c. (omega arith, search readings-none))
+    (λ c. (omega arith, search readings_none))
     (λ c κs. search rules)
     (λ c. search rules)
     (λ c. search rules)
-    (λ c. (omega arith, search readings-more))
-    (λ c. search put-long)
-    (λ c. search readings-all))
+    (λ c. (omega arith, search readings_more))
+    (λ c. search put_long)
+    (λ c. search readings_all))

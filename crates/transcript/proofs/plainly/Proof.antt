@@ -1,7 +1,7 @@
 -- `transcript::plainly` meets its contract: the readings passed are the same. Assumes nothing.
 use Rattle.std.proofs.Common.{◌-◌, ◌≤◌, rules}
 use Rattle.transcript.specs.How.{Agree}
-use Rattle.transcript.proofs.Plain.{all-agree, next-differs, next-agrees}
+use Rattle.transcript.proofs.Plain.{all_agree, next_differs, next_agrees}
 use Rattle.transcript.proofs.plainly.Statement.{statement}
 use Rattle.transcript.proofs.plainly.Tie as tie
 
@@ -24,6 +24,6 @@ plainly-spec =
     (λ c. search rules)
     (λ c κs. search rules)
     (λ c. search rules)
-    (λ c. let k = c.before.before.before.before.before in (search rules, search (next-agrees, k.shared-slice-known2.given, k.before.shared-slice-known.given, rules)))
-    (λ c. search all-agree)
-    (λ c. search next-differs))
+    (λ c. let k = c.before.before.before.before.before in (search rules, search (next_agrees, k.shared-slice-known2.given, k.before.shared-slice-known.given, rules)))
+    (λ c. search all_agree)
+    (λ c. search next_differs))

@@ -1,11 +1,11 @@
 -- `vcd::var_line` meets its contract. Assumes nothing.
-use Rattle.vcd.specs.Lines.{varOf}
+use Rattle.vcd.specs.Lines.{var_of}
 use borrow.Author.Rules.{rules}
 use Rattle.vcd.proofs.var_line.Statement.{statement}
 use Rattle.vcd.proofs.var_line.Tie as tie
 
 pub var-line-spec : {M : Type 1} → statement M
-unfolding varOf
+unfolding var_of
 var-line-spec =
     tie.close
     (tie.spec

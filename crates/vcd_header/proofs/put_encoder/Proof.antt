@@ -1,6 +1,6 @@
 -- `vcd_header::put_encoder` meets its contract. Assumes nothing.
 use borrow.Author.Rules.{rules}
-use Rattle.vcd_header.proofs.Wires.{no-wire, two-wires}
+use Rattle.vcd_header.proofs.Wires.{no_wire, two_wires}
 use Rattle.vcd_header.proofs.put_encoder.Statement.{statement}
 use Rattle.vcd_header.proofs.put_encoder.Tie as tie
 
@@ -8,11 +8,11 @@ pub put-encoder-spec : {M : Type 1} → statement M
 put-encoder-spec =
     tie.close
     (tie.spec
-    (λ c. search no-wire)
+    (λ c. search no_wire)
     (λ c. search rules)
     (λ c κs. search rules)
     (λ c. search rules)
     (λ c. search rules)
     (λ c κs. search rules)
     (λ c. search rules)
-    (λ c. search two-wires))
+    (λ c. search two_wires))

@@ -1,6 +1,6 @@
 -- `vcd_header::put_unknown` meets its contract. Assumes nothing.
 use borrow.Author.Rules.{rules}
-use Rattle.vcd_header.proofs.Wires.{unknown-put}
+use Rattle.vcd_header.proofs.Wires.{unknown_put}
 use Rattle.vcd_header.proofs.put_unknown.Statement.{statement}
 use Rattle.vcd_header.proofs.put_unknown.Tie as tie
 
@@ -10,4 +10,4 @@ put-unknown-spec =
     (tie.spec
     (λ c κs. search rules)
     (λ c. search rules)
-    (λ c. search unknown-put))
+    (λ c. search unknown_put))

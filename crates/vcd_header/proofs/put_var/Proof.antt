@@ -1,6 +1,6 @@
 -- `vcd_header::put_var` meets its contract. Assumes nothing.
 use borrow.Author.Rules.{rules}
-use Rattle.vcd_header.proofs.Wires.{var-put}
+use Rattle.vcd_header.proofs.Wires.{var_put}
 use Rattle.vcd_header.proofs.put_var.Statement.{statement}
 use Rattle.vcd_header.proofs.put_var.Tie as tie
 
@@ -13,4 +13,4 @@ put-var-spec =
     (λ c κs. search rules)
     (λ c κs. search rules)
     (λ c. search rules)
-    (λ c. search var-put))
+    (λ c. search var_put))

@@ -1,6 +1,6 @@
 -- `vcd_header::put_wire` meets its contract. Assumes nothing.
 use borrow.Author.Rules.{rules}
-use Rattle.vcd_header.proofs.Wires.{wire-declared, wire-unknown}
+use Rattle.vcd_header.proofs.Wires.{wire_declared, wire_unknown}
 use Rattle.vcd_header.proofs.put_wire.Statement.{statement}
 use Rattle.vcd_header.proofs.put_wire.Tie as tie
 
@@ -10,7 +10,7 @@ put-wire-spec =
     (tie.spec
     (λ c κs. search rules)
     (λ c. search rules)
-    (λ c. search wire-declared)
+    (λ c. search wire_declared)
     (λ c κs. search rules)
     (λ c. search rules)
-    (λ c. search wire-unknown))
+    (λ c. search wire_unknown))

@@ -1,7 +1,7 @@
 -- `vcd_read::declaration` meets its contract. Assumes nothing.
 use borrow.Author.Rules.{rules}
 use Rattle.laws.proofs.Cases.{cases}
-use Rattle.vcd_read.proofs.Laws.{var-found, var-other}
+use Rattle.vcd_read.proofs.Laws.{var_found, var_other}
 use Rattle.vcd_read.proofs.declaration.Statement.{statement}
 use Rattle.vcd_read.proofs.declaration.Tie as tie
 
@@ -13,5 +13,5 @@ declaration-spec =
     (λ c κs. search rules)
     (λ c. search rules)
     (λ c κs. search rules)
-    (λ c. search var-found)
-    (λ c. search var-other))
+    (λ c. search var_found)
+    (λ c. search var_other))

@@ -1,6 +1,6 @@
 -- `vcd_read::number` meets its contract. Assumes nothing.
 use borrow.Author.Rules.{rules}
-use Rattle.vcd_read.proofs.Laws.{a-number, no_number}
+use Rattle.vcd_read.proofs.Laws.{a_number, no_number}
 use Rattle.vcd_read.proofs.number.Statement.{statement}
 use Rattle.vcd_read.proofs.number.Tie as tie
 
@@ -14,5 +14,5 @@ number-spec =
     (λ c κs. search rules)
     (λ c. search rules)
     (λ c. search rules)
-    (λ c. search a-number)
+    (λ c. search a_number)
     (λ c. search no_number))

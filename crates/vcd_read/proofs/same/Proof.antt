@@ -5,7 +5,7 @@ use Prim.Native.Nat.{◌-◌, ◌≤◌}
 use lib.ListN.{length, drop}
 use Rattle.vcd.specs.How.{same as sameBytes}
 use borrow.Author.Rules.{rules}
-use Rattle.vcd_read.proofs.Laws.{same-off, same-differ, same_next, same-done}
+use Rattle.vcd_read.proofs.Laws.{same_off, same_differ, same_next, same_done}
 use Rattle.vcd_read.proofs.same.Statement.{statement}
 use Rattle.vcd_read.proofs.same.Tie as tie
 
@@ -21,12 +21,12 @@ same_spec =
     (tie.spec
     invariant-loop
     decreases-loop
-    (λ c. search same-off)
+    (λ c. search same_off)
     (λ c. (omega arith, omega arith, refl))
     (λ c. search rules)
     (λ c. search rules)
-    (λ c. search same-differ)
+    (λ c. search same_differ)
     (λ c. search rules)
     (λ c. search rules)
     (λ c. (omega arith, omega arith, search same_next))
-    (λ c. search same-done))
+    (λ c. search same_done))

@@ -1,6 +1,6 @@
 -- `vcd_read::time` meets its contract. Assumes nothing.
 use borrow.Author.Rules.{rules}
-use Rattle.vcd_read.proofs.Laws.{one-digit, zero-led, not-zero-led}
+use Rattle.vcd_read.proofs.Laws.{one_digit, zero_led, not_zero_led}
 use Rattle.vcd_read.proofs.time.Statement.{statement}
 use Rattle.vcd_read.proofs.time.Tie as tie
 
@@ -9,8 +9,8 @@ time-spec =
     tie.close
     (tie.spec
     (λ c κs. search rules)
-    (λ c. search one-digit)
+    (λ c. search one_digit)
     (λ c. search rules)
-    (λ c. search zero-led)
+    (λ c. search zero_led)
     (λ c κs. search rules)
-    (λ c. search not-zero-led))
+    (λ c. search not_zero_led))

@@ -1,6 +1,6 @@
 -- `vcd_turn::awaits` meets its contract. Assumes nothing.
 use borrow.Author.Rules.{rules}
-use Rattle.vcd_turn.proofs.Laws.{awaits-b, awaits-none}
+use Rattle.vcd_turn.proofs.Laws.{awaits_b, awaits_none}
 use Rattle.vcd_turn.proofs.awaits.Statement.{statement}
 use Rattle.vcd_turn.proofs.awaits.Tie as tie
 
@@ -9,5 +9,5 @@ awaits-spec =
     tie.close
     (tie.spec
     (λ c. search rules)
-    (λ c. search awaits-b)
-    (λ c. search awaits-none))
+    (λ c. search awaits_b)
+    (λ c. search awaits_none))

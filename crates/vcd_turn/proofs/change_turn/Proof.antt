@@ -1,6 +1,6 @@
 -- `vcd_turn::change_turn` meets its contract. Assumes nothing.
 use borrow.Author.Rules.{rules}
-use Rattle.vcd_turn.proofs.Laws.{change-yes, change-no}
+use Rattle.vcd_turn.proofs.Laws.{change_yes, change_no}
 use Rattle.vcd_turn.proofs.change_turn.Statement.{statement}
 use Rattle.vcd_turn.proofs.change_turn.Tie as tie
 
@@ -14,6 +14,6 @@ change-turn-spec =
     (λ c. search rules)
     (λ c. search rules)
     (λ c κs. search rules)
-    (λ c. search change-yes)
+    (λ c. search change_yes)
     (λ c κs. search rules)
-    (λ c. search change-no))
+    (λ c. search change_no))

@@ -1,6 +1,6 @@
 -- `vcd_turn::fixed_turn` meets its contract. Assumes nothing.
 use borrow.Author.Rules.{rules}
-use Rattle.vcd_turn.proofs.Laws.{fixed-yes, fixed_no}
+use Rattle.vcd_turn.proofs.Laws.{fixed_yes, fixed_no}
 use Rattle.vcd_turn.proofs.fixed_turn.Statement.{statement}
 use Rattle.vcd_turn.proofs.fixed_turn.Tie as tie
 
@@ -10,6 +10,6 @@ fixed-turn-spec =
     (tie.spec
     (λ c. search rules)
     (λ c κs. search rules)
-    (λ c. search fixed-yes)
+    (λ c. search fixed_yes)
     (λ c κs. search rules)
     (λ c. search fixed_no))

@@ -1,6 +1,6 @@
 -- `vcd_turn::taken` meets its contract. Assumes nothing.
 use borrow.Author.Rules.{rules}
-use Rattle.vcd_turn.proofs.Laws.{taken_then, taken-first, taken-other}
+use Rattle.vcd_turn.proofs.Laws.{taken_then, taken_first, taken_other}
 use Rattle.vcd_turn.proofs.taken.Statement.{statement}
 use Rattle.vcd_turn.proofs.taken.Tie as tie
 
@@ -9,6 +9,6 @@ taken-spec =
     tie.close
     (tie.spec
     (λ c. search taken_then)
-    (λ c. search taken-first)
+    (λ c. search taken_first)
     (λ c κs. search rules)
-    (λ c. search taken-other))
+    (λ c. search taken_other))

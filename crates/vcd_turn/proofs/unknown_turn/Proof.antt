@@ -1,6 +1,6 @@
 -- `vcd_turn::unknown_turn` meets its contract. Assumes nothing.
 use borrow.Author.Rules.{rules}
-use Rattle.vcd_turn.proofs.Laws.{unknown-yes, unknown-no}
+use Rattle.vcd_turn.proofs.Laws.{unknown_yes, unknown_no}
 use Rattle.vcd_turn.proofs.unknown_turn.Statement.{statement}
 use Rattle.vcd_turn.proofs.unknown_turn.Tie as tie
 
@@ -12,6 +12,6 @@ unknown-turn-spec =
     (λ c κs. search rules)
     (λ c. search rules)
     (λ c κs. search rules)
-    (λ c. search unknown-yes)
+    (λ c. search unknown_yes)
     (λ c κs. search rules)
-    (λ c. search unknown-no))
+    (λ c. search unknown_no))

@@ -1,6 +1,6 @@
 -- `vcd_turn::var_turn` meets its contract. Assumes nothing.
 use borrow.Author.Rules.{rules}
-use Rattle.vcd_turn.proofs.Laws.{var-yes, var-no}
+use Rattle.vcd_turn.proofs.Laws.{var_yes, var_no}
 use Rattle.vcd_turn.proofs.var_turn.Statement.{statement}
 use Rattle.vcd_turn.proofs.var_turn.Tie as tie
 
@@ -11,6 +11,6 @@ var-turn-spec =
     (λ c κs. search rules)
     (λ c. search rules)
     (λ c. search rules)
-    (λ c. search var-yes)
+    (λ c. search var_yes)
     (λ c κs. search rules)
-    (λ c. search var-no))
+    (λ c. search var_no))

@@ -1,6 +1,6 @@
 -- `vcd_write::put_change` meets its contract. Assumes nothing.
 use borrow.Author.Rules.{rules}
-use Rattle.vcd_write.proofs.Lines.{change-none, change-some}
+use Rattle.vcd_write.proofs.Lines.{change_none, change_some}
 use Rattle.vcd_write.proofs.put_change.Statement.{statement}
 use Rattle.vcd_write.proofs.put_change.Tie as tie
 
@@ -8,8 +8,8 @@ pub put-change-spec : {M : Type 1} → statement M
 put-change-spec =
     tie.close
     (tie.spec
-    (λ c. search change-none)
+    (λ c. search change_none)
     (λ c. search rules)
     (λ c κs. search rules)
     (λ c. search rules)
-    (λ c. search change-some))
+    (λ c. search change_some))

@@ -1,6 +1,6 @@
 -- `vcd_write::put_changes` meets its contract. Assumes nothing.
 use borrow.Author.Rules.{rules}
-use Rattle.vcd_write.proofs.Lines.{changes-none, changes-put}
+use Rattle.vcd_write.proofs.Lines.{changes_none, changes_put}
 use Rattle.vcd_write.proofs.put_changes.Statement.{statement}
 use Rattle.vcd_write.proofs.put_changes.Tie as tie
 
@@ -8,7 +8,7 @@ pub put-changes-spec : {M : Type 1} → statement M
 put-changes-spec =
     tie.close
     (tie.spec
-    (λ c. search changes-none)
+    (λ c. search changes_none)
     (λ c κs. search rules)
     (λ c. search rules)
     (λ c κs. search rules)
@@ -16,4 +16,4 @@ put-changes-spec =
     (λ c. search rules)
     (λ c κs. search rules)
     (λ c. search rules)
-    (λ c. search changes-put))
+    (λ c. search changes_put))

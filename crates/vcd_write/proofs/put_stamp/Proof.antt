@@ -1,6 +1,6 @@
 -- `vcd_write::put_stamp` meets its contract. Assumes nothing.
 use borrow.Author.Rules.{rules}
-use Rattle.vcd_write.proofs.Lines.{stamp-none, stamp-some}
+use Rattle.vcd_write.proofs.Lines.{stamp_none, stamp_some}
 use Rattle.vcd_write.proofs.put_stamp.Statement.{statement}
 use Rattle.vcd_write.proofs.put_stamp.Tie as tie
 
@@ -8,7 +8,7 @@ pub put-stamp-spec : {M : Type 1} → statement M
 put-stamp-spec =
     tie.close
     (tie.spec
-    (λ c. search stamp-none)
+    (λ c. search stamp_none)
     (λ c κs. search rules)
     (λ c. search rules)
-    (λ c. search stamp-some))
+    (λ c. search stamp_some))

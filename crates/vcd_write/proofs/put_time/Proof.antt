@@ -1,6 +1,6 @@
 -- `vcd_write::put_time` meets its contract. Assumes nothing.
 use borrow.Author.Rules.{rules}
-use Rattle.vcd_write.proofs.Lines.{time-put}
+use Rattle.vcd_write.proofs.Lines.{time_put}
 use Rattle.vcd_write.proofs.put_time.Statement.{statement}
 use Rattle.vcd_write.proofs.put_time.Tie as tie
 
@@ -12,4 +12,4 @@ put-time-spec =
     (λ c κs. search rules)
     (λ c κs. search rules)
     (λ c. search rules)
-    (λ c. search time-put))
+    (λ c. search time_put))

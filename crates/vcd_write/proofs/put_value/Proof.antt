@@ -1,6 +1,6 @@
 -- `vcd_write::put_value` meets its contract. Assumes nothing.
 use borrow.Author.Rules.{rules}
-use Rattle.vcd_write.proofs.Lines.{value-put}
+use Rattle.vcd_write.proofs.Lines.{value_put}
 use Rattle.vcd_write.proofs.put_value.Statement.{statement}
 use Rattle.vcd_write.proofs.put_value.Tie as tie
 
@@ -13,4 +13,4 @@ put-value-spec =
     (λ c κs. search rules)
     (λ c κs. search rules)
     (λ c. search rules)
-    (λ c. search value-put))
+    (λ c. search value_put))

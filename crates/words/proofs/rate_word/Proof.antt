@@ -1,6 +1,6 @@
 -- `words::rate_word` meets its contract. Assumes nothing.
 use borrow.Author.Rules.{rules}
-use Rattle.words.proofs.RateWords.{period-part, clock-part, ratio-part, unset-part}
+use Rattle.words.proofs.RateWords.{period_part, clock_part, ratio_part, unset_part}
 use Rattle.words.proofs.rate_word.Statement.{statement}
 use Rattle.words.proofs.rate_word.Tie as tie
 
@@ -9,8 +9,8 @@ rate-word-spec =
     tie.close
     (tie.spec
     (λ c. search rules)
-    (λ c κs. (search period-part, search clock-part))
+    (λ c κs. (search period_part, search clock_part))
     (λ c. search rules)
     (λ c. search rules)
-    (λ c. search ratio-part)
-    (λ c. search unset-part))
+    (λ c. search ratio_part)
+    (λ c. search unset_part))

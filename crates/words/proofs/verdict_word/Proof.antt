@@ -1,7 +1,7 @@
 -- `words::verdict_word` meets its contract. Assumes nothing.
 use lib.Dec.{lit≤}
 use borrow.Author.Rules.{rules}
-use Rattle.words.proofs.JudgeWord.{index-place, index-beside, index-part, refused-part}
+use Rattle.words.proofs.JudgeWord.{index_place, index_beside, index_part, refused_part}
 use Rattle.words.proofs.verdict_word.Statement.{statement}
 use Rattle.words.proofs.verdict_word.Tie as tie
 
@@ -13,12 +13,12 @@ verdict-word-spec =
     (λ c. search rules)
     (λ c. search rules)
     (λ c. search rules)
-    (λ c. search (index-place, lit≤))
-    (λ c. search (index-beside, lit≤))
+    (λ c. search (index_place, lit≤))
+    (λ c. search (index_beside, lit≤))
     (λ c. search rules)
     (λ c. search rules)
     (λ c. search rules)
     (λ c. search rules)
     (λ c. search rules)
-    (λ c. search index-part)
-    (λ c. search (refused-part, rules)))
+    (λ c. search index_part)
+    (λ c. search (refused_part, rules)))

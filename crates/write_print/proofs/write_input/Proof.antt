@@ -1,6 +1,6 @@
 -- `write_print::write_input` meets its contract. Assumes nothing.
 use borrow.Author.Rules.{rules}
-use Rattle.printed.proofs.Prints.{put-counts}
+use Rattle.printed.proofs.Prints.{put_counts}
 use Rattle.write_print.proofs.write_input.Statement.{statement}
 use Rattle.write_print.proofs.write_input.Tie as tie
 
@@ -22,7 +22,7 @@ write-input-spec =
     (λ c. search rules)
     (λ c κs. search rules)
     (λ c. search rules)
-    (λ c. search put-counts)
+    (λ c. search put_counts)
     (λ c. search rules)
     (λ c κs. search rules)
     (λ c κs. search rules)

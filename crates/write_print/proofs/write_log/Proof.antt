@@ -1,6 +1,6 @@
 -- `write_print::write_log` meets its contract. Assumes nothing.
 use borrow.Author.Rules.{rules}
-use Rattle.write_print.proofs.Prints.{no-number-printed, number-printed}
+use Rattle.write_print.proofs.Prints.{no_number_printed, number_printed}
 use Rattle.write_print.proofs.write_log.Statement.{statement}
 use Rattle.write_print.proofs.write_log.Tie as tie
 
@@ -13,7 +13,7 @@ write-log-spec =
     (λ c. search rules)
     (λ c κs. search rules)
     (λ c. search rules)
-    (λ c. search no-number-printed)
+    (λ c. search no_number_printed)
     (λ c κs. search rules)
     (λ c. search rules)
-    (λ c. search number-printed))
+    (λ c. search number_printed))

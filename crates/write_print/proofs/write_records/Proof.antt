@@ -1,6 +1,6 @@
 -- `write_print::write_records` meets its contract. Assumes nothing.
 use borrow.Author.Rules.{rules}
-use Rattle.write_print.proofs.Prints.{some-counts}
+use Rattle.write_print.proofs.Prints.{some_counts}
 use Rattle.write_print.proofs.write_records.Statement.{statement}
 use Rattle.write_print.proofs.write_records.Tie as tie
 
@@ -20,4 +20,4 @@ write-records-spec =
     (λ c. search rules)
     (λ c κs. search rules)
     (λ c. search rules)
-    (λ c. search some-counts))
+    (λ c. search some_counts))

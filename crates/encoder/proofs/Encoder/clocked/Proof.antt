@@ -1,6 +1,6 @@
 -- `encoder::Encoder::clocked` meets its contract. Assumes nothing.
 use borrow.Author.Rules.{rules}
-use Rattle.encoder.proofs.Rules.{clocked-down, clocked-up, clocked-no}
+use Rattle.encoder.proofs.Rules.{clocked_down, clocked_up, clocked_no}
 use Rattle.encoder.proofs.Encoder.clocked.Statement.{statement}
 use Rattle.encoder.proofs.Encoder.clocked.Tie as tie
 
@@ -9,8 +9,8 @@ clocked-spec =
     tie.close
     (tie.spec
     (λ c κs. search rules)
-    (λ c. search clocked-down)
+    (λ c. search clocked_down)
     (λ c κs. search rules)
-    (λ c. search clocked-up)
+    (λ c. search clocked_up)
     (λ c κs. search rules)
-    (λ c. search clocked-no))
+    (λ c. search clocked_no))

@@ -1,6 +1,6 @@
 -- `encoder::Encoder::pins` meets its contract. Assumes nothing.
 use borrow.Author.Rules.{rules}
-use Rattle.encoder.proofs.Rules.{pins-seen, pins-first, pins-off, pins-kept, pins-clocked}
+use Rattle.encoder.proofs.Rules.{pins_seen, pins_first, pins_off, pins_kept, pins_clocked}
 use Rattle.encoder.proofs.Encoder.pins.Statement.{statement}
 use Rattle.encoder.proofs.Encoder.pins.Tie as tie
 
@@ -10,11 +10,11 @@ pins-spec =
     (tie.spec
     (λ c κs. search rules)
     (λ c κs. search rules)
-    (λ c. search pins-seen)
+    (λ c. search pins_seen)
     (λ c κs. search rules)
-    (λ c. search pins-first)
-    (λ c. search pins-off)
+    (λ c. search pins_first)
+    (λ c. search pins_off)
     (λ c κs. search rules)
-    (λ c. search pins-kept)
+    (λ c. search pins_kept)
     (λ c κs. search rules)
-    (λ c. search pins-clocked))
+    (λ c. search pins_clocked))

@@ -1,7 +1,7 @@
 -- `encoder::Encoder::register` meets its contract. Assumes nothing.
 use borrow.Author.Rules.{rules}
 use Rattle.laws.proofs.Cases.{cases}
-use Rattle.encoder.proofs.Rules.{read-cntr}
+use Rattle.encoder.proofs.Rules.{read_cntr}
 use Rattle.encoder.proofs.Encoder.register.Statement.{statement}
 use Rattle.encoder.proofs.Encoder.register.Tie as tie
 
@@ -15,4 +15,4 @@ register-spec =
     (λ c. search cases)
     (λ c κs. search rules)
     (λ c. search rules)
-    (λ c. search read-cntr))
+    (λ c. search read_cntr))

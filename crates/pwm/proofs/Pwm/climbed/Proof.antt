@@ -1,5 +1,5 @@
 use Rattle.std.proofs.Common.{rules}
-use Rattle.pwm.proofs.Rounds.{cmp-met, cmp-unmet}
+use Rattle.pwm.proofs.Rounds.{cmp_met, cmp_unmet}
 use Rattle.pwm.proofs.Pwm.climbed.Statement.{statement}
 use Rattle.pwm.proofs.Pwm.climbed.Tie as tie
 
@@ -9,6 +9,6 @@ climbed-spec =
     (tie.spec
     (λ c κs. search rules)
     (λ c κs. search rules)
-    (λ c. search cmp-met)
+    (λ c. search cmp_met)
     (λ c κs. search rules)
-    (λ c. search cmp-unmet))
+    (λ c. search cmp_unmet))

@@ -1,5 +1,5 @@
 use Rattle.std.proofs.Common.{rules}
-use Rattle.pwm.proofs.Rounds.{low, is-mode-1}
+use Rattle.pwm.proofs.Rounds.{low, is_mode_1}
 use Rattle.pwm.proofs.Pwm.steps.Statement.{statement}
 use Rattle.pwm.proofs.Pwm.steps.Tie as tie
 
@@ -8,7 +8,7 @@ steps-spec =
     tie.close
     (tie.spec
     (λ c κs. search rules)
-    (λ c κs. search is-mode-1)
+    (λ c κs. search is_mode_1)
     (λ c. search rules)
     (λ c. search rules)
     (λ c κs. search rules)

@@ -1,5 +1,5 @@
 use Rattle.std.proofs.Common.{rules}
-use Rattle.pwm.proofs.Waits.{off, steps-fit, rest-left, rest-fits, wait}
+use Rattle.pwm.proofs.Waits.{off, steps_fit, rest_left, rest_fits, wait}
 use Rattle.pwm.proofs.Pwm.ticks.Statement.{statement}
 use Rattle.pwm.proofs.Pwm.ticks.Tie as tie
 
@@ -13,10 +13,10 @@ ticks-spec =
     (λ c. search rules)
     (λ c. search rules)
     (λ c. search rules)
-    (λ c. record { fits = search steps-fit })
+    (λ c. record { fits = search steps_fit })
     (λ c. search rules)
     (λ c. search rules)
-    (λ c. search rest-left)
-    (λ c. record { fits = search rest-fits })
+    (λ c. search rest_left)
+    (λ c. record { fits = search rest_fits })
     (λ c κs. search rules)
     (λ c. search wait))

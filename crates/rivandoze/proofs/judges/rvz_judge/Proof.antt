@@ -1,8 +1,8 @@
 -- `rivandoze::judges::rvz_judge` meets its contract. Assumes nothing.
 use borrow.Author.Rules.{rules}
-use Rattle.words.proofs.JudgeWord.{index-small, judge-word}
+use Rattle.words.proofs.JudgeWord.{index_small, judge_word}
 use Rattle.rivandoze.proofs.judges.rvz_judge.Statement.{statement}
 use Rattle.rivandoze.proofs.judges.rvz_judge.Tie as tie
 
 pub rvz-judge-spec : {M : Type 1} → statement M
-rvz-judge-spec = tie.close (tie.spec (λ c κs. search rules) (λ c κs. search index-small) (λ c. search judge-word))
+rvz-judge-spec = tie.close (tie.spec (λ c κs. search rules) (λ c κs. search index_small) (λ c. search judge_word))

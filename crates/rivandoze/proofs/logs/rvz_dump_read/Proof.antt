@@ -1,6 +1,6 @@
 -- `rivandoze::logs::rvz_dump_read` meets its contract. Assumes nothing.
 use borrow.Author.Rules.{rules}
-use Rattle.rivandoze.proofs.Calls.{entries-word}
+use Rattle.rivandoze.proofs.Calls.{entries_word}
 use Rattle.rivandoze.proofs.logs.rvz_dump_read.Statement.{statement}
 use Rattle.rivandoze.proofs.logs.rvz_dump_read.Tie as tie
 
@@ -11,4 +11,4 @@ rvz-dump-read-spec =
     (λ c κs. search rules)
     (λ c κs. search rules)
     (λ c. search rules)
-    (λ c. search entries-word))
+    (λ c. search entries_word))

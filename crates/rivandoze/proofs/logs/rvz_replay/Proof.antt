@@ -1,6 +1,6 @@
 -- `rivandoze::logs::rvz_replay` meets its contract. Assumes nothing.
 use borrow.Author.Rules.{rules}
-use Rattle.rivandoze.proofs.Calls.{replay-small, replay-word}
+use Rattle.rivandoze.proofs.Calls.{replay_small, replay_word}
 use Rattle.rivandoze.proofs.logs.rvz_replay.Statement.{statement}
 use Rattle.rivandoze.proofs.logs.rvz_replay.Tie as tie
 
@@ -9,6 +9,6 @@ rvz-replay-spec =
     tie.close
     (tie.spec
     (λ c κs. search rules)
-    (λ c κs. search replay-small)
+    (λ c κs. search replay_small)
     (λ c. search rules)
-    (λ c. (search replay-word, search rules)))
+    (λ c. (search replay_word, search rules)))

@@ -1,6 +1,6 @@
 -- `rivandoze::logs::rvz_shrink` meets its contract. Assumes nothing.
 use borrow.Author.Rules.{rules}
-use Rattle.rivandoze.proofs.Calls.{shrink-small, made_word}
+use Rattle.rivandoze.proofs.Calls.{shrink_small, made_word}
 use Rattle.rivandoze.proofs.logs.rvz_shrink.Statement.{statement}
 use Rattle.rivandoze.proofs.logs.rvz_shrink.Tie as tie
 
@@ -9,6 +9,6 @@ rvz-shrink-spec =
     tie.close
     (tie.spec
     (λ c κs. search rules)
-    (λ c κs. search shrink-small)
+    (λ c κs. search shrink_small)
     (λ c. search rules)
     (λ c. (search made_word, search rules)))

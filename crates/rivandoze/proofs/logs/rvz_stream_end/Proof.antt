@@ -1,6 +1,6 @@
 -- `rivandoze::logs::rvz_stream_end` meets its contract. Assumes nothing.
 use borrow.Author.Rules.{rules}
-use Rattle.rivandoze.proofs.Calls.{end-word}
+use Rattle.rivandoze.proofs.Calls.{end_word}
 use Rattle.rivandoze.proofs.logs.rvz_stream_end.Statement.{statement}
 use Rattle.rivandoze.proofs.logs.rvz_stream_end.Tie as tie
 
@@ -10,4 +10,4 @@ rvz-stream-end-spec =
     (tie.spec
     (λ c κs. search rules)
     (λ c κs. search rules)
-    (λ c. search end-word))
+    (λ c. search end_word))

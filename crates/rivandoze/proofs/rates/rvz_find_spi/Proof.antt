@@ -1,6 +1,6 @@
 -- `rivandoze::rates::rvz_find_spi` meets its contract. Assumes nothing.
 use borrow.Author.Rules.{rules}
-use Rattle.words.proofs.RateWords.{narrow-spi, parts-fit, found_word}
+use Rattle.words.proofs.RateWords.{narrow_spi, parts_fit, found_word}
 use Rattle.rivandoze.proofs.rates.rvz_find_spi.Statement.{statement}
 use Rattle.rivandoze.proofs.rates.rvz_find_spi.Tie as tie
 
@@ -9,5 +9,5 @@ rvz-find-spi-spec =
     tie.close
     (tie.spec
     (λ c κs. search rules)
-    (λ c κs. (search parts-fit, search parts-fit, search parts-fit))
-    (λ c. search (found_word, narrow-spi)))
+    (λ c κs. (search parts_fit, search parts_fit, search parts_fit))
+    (λ c. search (found_word, narrow_spi)))

@@ -1,6 +1,6 @@
 -- `rivandoze::rates::rvz_rate_pwm` meets its contract. Assumes nothing.
 use borrow.Author.Rules.{rules}
-use Rattle.words.proofs.RateWords.{narrow-pwm, period-fits, clock-fits, rated-word}
+use Rattle.words.proofs.RateWords.{narrow_pwm, period_fits, clock_fits, rated_word}
 use Rattle.rivandoze.proofs.rates.rvz_rate_pwm.Statement.{statement}
 use Rattle.rivandoze.proofs.rates.rvz_rate_pwm.Tie as tie
 
@@ -9,5 +9,5 @@ rvz-rate-pwm-spec =
     tie.close
     (tie.spec
     (λ c κs. search rules)
-    (λ c κs. (search (period-fits, narrow-pwm), search (clock-fits, narrow-pwm)))
-    (λ c. search (rated-word, narrow-pwm)))
+    (λ c κs. (search (period_fits, narrow_pwm), search (clock_fits, narrow_pwm)))
+    (λ c. search (rated_word, narrow_pwm)))

@@ -1,6 +1,6 @@
 -- `rivandoze::rates::rvz_rate_spi` meets its contract. Assumes nothing.
 use borrow.Author.Rules.{rules}
-use Rattle.words.proofs.RateWords.{narrow-spi, period-fits, clock-fits, rated-word}
+use Rattle.words.proofs.RateWords.{narrow_spi, period_fits, clock_fits, rated_word}
 use Rattle.rivandoze.proofs.rates.rvz_rate_spi.Statement.{statement}
 use Rattle.rivandoze.proofs.rates.rvz_rate_spi.Tie as tie
 
@@ -9,5 +9,5 @@ rvz-rate-spi-spec =
     tie.close
     (tie.spec
     (λ c κs. search rules)
-    (λ c κs. (search (period-fits, narrow-spi), search (clock-fits, narrow-spi)))
-    (λ c. search (rated-word, narrow-spi)))
+    (λ c κs. (search (period_fits, narrow_spi), search (clock_fits, narrow_spi)))
+    (λ c. search (rated_word, narrow_spi)))
