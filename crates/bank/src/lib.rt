@@ -1,4 +1,6 @@
 // One bank: the four blocks.
+#![tactic(auto)]
+
 ghost use Rattle.std.specs.Prelude.{◌≡◌};
 ghost use Rattle.bank.specs.Bank.{fresh, reroute};
 

@@ -1,4 +1,6 @@
 // Both banks: as two bank structs, which is how a state is passed and returned, and laid out flat, which is how the replay walks over it.
+#![tactic(auto)]
+
 ghost use Rattle.std.specs.Prelude.{◌≡◌, ◌<◌};
 ghost use Rattle.banks.specs.State.{fresh, with_bank};
 ghost use Rattle.banks.specs.How.{state_of, bank_in};

@@ -1,4 +1,6 @@
 // A truth value as the bit that a register shows of it.
+#![tactic(auto)]
+
 ghost use Rattle.std.specs.Prelude.{◌≡◌, ◌≤◌};
 ghost use Rattle.bits.specs.Bits.{num};
 

@@ -1,4 +1,6 @@
 // What the program's arguments ask for, and what it says of its use.
+#![tactic(auto)]
+
 ghost use Rattle.std.specs.Prelude.{◌≡◌};
 ghost use Rattle.io.specs.Counts.{IsPrefixLen};
 ghost use Rattle.command.specs.Asked.{alone_of, of_two, command_of};

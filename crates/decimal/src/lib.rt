@@ -1,4 +1,6 @@
 // Numbers in decimal, read as a program's arguments are and put among the bytes that it prints.
+#![tactic(auto)]
+
 ghost use Rattle.std.specs.Prelude.{◌≡◌, [], ◌∷◌, ◌+◌, ◌<◌};
 ghost use Rattle.decimal.specs.Decimal.{decimal_of};
 ghost use Rattle.decimal.specs.Digits.{digits_of};

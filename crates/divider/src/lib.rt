@@ -1,4 +1,6 @@
 // The clock's seven dividers, which PWM and SPI share.
+#![tactic(auto)]
+
 ghost use Rattle.std.specs.Prelude.{◌≡◌, ◌≤◌};
 ghost use Rattle.divider.specs.Divider.{divider_of};
 

@@ -1,4 +1,6 @@
 // A log's pins as a value change dump: docs/WAVEFORM.md.
+#![tactic(auto)]
+
 ghost use Rattle.std.specs.Prelude.{◌≡◌, false, ◌+◌, ◌*◌, ◌<◌, ◌≤◌, length, take, drop};
 ghost use Rattle.decimal.specs.Put.{Put};
 ghost use Rattle.vcd.specs.Lines.{text_of};

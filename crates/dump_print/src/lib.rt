@@ -1,4 +1,6 @@
 // What `rvz dump` writes: a log's dump, for standard output, or its refusal, for standard error.
+#![tactic(auto)]
+
 ghost use Rattle.std.specs.Prelude.{◌≤◌, length};
 ghost use Rattle.io.specs.Counts.{IsPrefixLen};
 ghost use Rattle.dump.specs.Dump.{dump_text};

@@ -1,4 +1,6 @@
 // Reads a dump back, and no other text: the pins after all changes at each time at which something changed.
+#![tactic(auto)]
+
 ghost use Rattle.std.specs.Prelude.{◌≡◌, ◌+◌, ◌<◌, ◌≤◌, length};
 ghost use mathlib.Core.List.{[], ◌∷◌, foldl};
 ghost use Rattle.vcd.specs.Entries.{entries_at, entry_bytes};

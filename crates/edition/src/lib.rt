@@ -1,4 +1,6 @@
 // The editions of the log's format: what each of them turns on.
+#![tactic(auto)]
+
 ghost use Rattle.std.specs.Prelude.{◌≡◌};
 ghost use Rattle.edition.specs.Edition.{known, edition_of};
 

@@ -1,4 +1,6 @@
 // One encoder: its count, the registers CNFG and STAT as numbers, and the pins last seen.
+#![tactic(auto)]
+
 ghost use Rattle.std.specs.Prelude.{◌≡◌, Bool};
 ghost use Rattle.encoder.specs.Encoder.{stored, kept, counted, quadrature, clocked, on_cnfg, on_select, on_pins, register_of, fresh};
 

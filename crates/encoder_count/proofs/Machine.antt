@@ -11,7 +11,7 @@ abbrev pub held : ℤ → ℤ
 held z = to_z w32 (of_z w32 z)
 
 pub held_is : (z : ℤ) → mag z < 2147483648 → held z ≡ z
-held_is z h = to_z-of_z (record { sfits = h })
+held_is z h = to_z-of_z {w = w32} (record { sfits = h })
 
 -- ---- the bit pattern
 
@@ -78,7 +78,7 @@ module _ (z y : ℤ) (b w : ℕ) (fits : SFits w32 z) (is : b ≡ pattern (held 
   at = is ∙ ap pattern (to_z-of_z fits)
 
   back : held y ≡ signed w
-  back = to_z-of_z (record { sfits = fits' }) ∙ made
+  back = to_z-of_z {w = w32} (record { sfits = fits' }) ∙ made
 
   pub up : w ≡ (b + 1) % 4294967296 → held y ≡ wrap (z +ℤ pos 1)
   up e = back ∙ ap signed (e ∙ ap (λ (n : ℕ). (n + 1) % 4294967296) at ∙ sym (pattern_suc z)) ∙ ap wrap (sym (+ℤ_one z))

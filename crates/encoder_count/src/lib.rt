@@ -1,4 +1,6 @@
 // The count of an encoder: a 32-bit signed number that wraps, its bit pattern, and its steps.
+#![tactic(auto)]
+
 ghost use Rattle.std.specs.Prelude.{◌≡◌, pos, negsuc, ◌+ℤ◌, if◌then◌else◌};
 ghost use Rattle.encoder_count.specs.Count.{wrap, pattern, signed};
 

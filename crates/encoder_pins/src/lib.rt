@@ -1,4 +1,6 @@
 // An encoder's pins: how many places on they are, and when they become unseen.
+#![tactic(auto)]
+
 ghost use Rattle.std.specs.Prelude.{◌≡◌, ◌||◌};
 ghost use Rattle.bits.specs.Bits.{changes};
 ghost use Rattle.encoder_pins.specs.Pins.{en, mode, places};

@@ -1,4 +1,6 @@
 // STAT as a number: each rule is a few operations on its six bits.
+#![tactic(auto)]
+
 ghost use Rattle.std.specs.Prelude.{◌≡◌, Bool, cond};
 ghost use Rattle.bits.specs.Bits.{bit, rises};
 ghost use Rattle.encoder_count.specs.Count.{pattern};

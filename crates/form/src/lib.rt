@@ -1,5 +1,7 @@
 // A form: a text with numbers in its places. # is the next one in decimal, ^ the sign of the next one, of two's complement, and ~ an s unless
 // the next one is 1.
+#![tactic(auto)]
+
 ghost use Rattle.std.specs.Prelude.{◌≡◌, ◌≤◌, get_or};
 ghost use Rattle.decimal.specs.Put.{Put};
 ghost use Rattle.form.specs.Form.{sign_of, plural_of, part_of, taken_by, form_text};

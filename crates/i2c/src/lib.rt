@@ -1,4 +1,6 @@
 // The I2C control sequencer: the two registers that GO takes its code from, and the state that it leaves.
+#![tactic(auto)]
+
 ghost use Rattle.std.specs.Prelude.{◌≡◌};
 ghost use Rattle.i2c_code.specs.Code.{allowed, forbidden};
 ghost use Rattle.i2c.specs.I2c.{code, recalled, on_addr, on_cntl, on_answer, ran, register_of, fresh};

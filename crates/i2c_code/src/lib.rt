@@ -1,4 +1,6 @@
 // The control code of a GO: the states in which it is allowed, what the slave does not acknowledge of it, the state that it leaves.
+#![tactic(auto)]
+
 ghost use Rattle.std.specs.Prelude.{◌≡◌, cond, eqb};
 ghost use Rattle.i2c_code.specs.Code.{code_of, state_of, allowed, forbidden, failed, ended};
 

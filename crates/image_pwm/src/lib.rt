@@ -1,4 +1,6 @@
 // A PWM channel in two words of 8 bytes: its registers, and what ticks move.
+#![tactic(auto)]
+
 ghost use Rattle.std.specs.Prelude.{◌≡◌};
 ghost use Rattle.image_pwm.specs.How.{registers_number, registers_of, is_registers, is_quick, wave_number, wave_of, pwm_of};
 

@@ -1,4 +1,6 @@
 // Whether bytes are a stream's state: 864 of them, laid out in specs/Image.antt.
+#![tactic(auto)]
+
 ghost use Rattle.std.specs.Prelude.{◌≡◌, true, ◌+◌, ◌<◌, ◌≤◌, length};
 ghost use Rattle.codec.specs.How.{ok_word, ok_many};
 ghost use Rattle.image_words.specs.How.{is_encoder};

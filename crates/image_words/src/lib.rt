@@ -1,4 +1,6 @@
 // An encoder and the I2C of a bank, each in a word of 8 bytes.
+#![tactic(auto)]
+
 ghost use Rattle.std.specs.Prelude.{◌≡◌, ◌<◌};
 ghost use Rattle.encoder_count.specs.Count.{pattern};
 ghost use Rattle.i2c.specs.I2c.{state_of};

@@ -1,4 +1,6 @@
 // Judges a transcript by the replay of a log.
+#![tactic(auto)]
+
 ghost use Rattle.std.specs.Prelude.{◌≡◌, cond, eqb};
 ghost use Rattle.transcript.specs.Judge.{Answer};
 

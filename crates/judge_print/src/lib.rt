@@ -1,4 +1,6 @@
 // What `rvz judge` prints: the verdict on the transcript in a file, by the log on standard input.
+#![tactic(auto)]
+
 ghost use Rattle.io.specs.Counts.{IsPrefixLen};
 ghost use Rattle.decimal.specs.Put.{Put};
 ghost use Rattle.judge_print.specs.Verdicts.{verdict_text, VerdictSaid};

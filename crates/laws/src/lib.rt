@@ -1,1 +1,2 @@
 // No code: the laws in proofs/ that several crates cite.
+#![tactic(auto)]

@@ -1,4 +1,6 @@
 // A stream between two chunks: records of any edition and any number, and the bytes of one that is not finished; and the small steps of a chunk.
+#![tactic(auto)]
+
 ghost use Rattle.std.specs.Prelude.{◌≡◌, ◌+◌, ◌*◌, ◌<◌, ◌≤◌, length, drop, nat_le};
 ghost use Rattle.std.proofs.Math.Seq.{paste};
 ghost use Rattle.fold.specs.Device.{records};

@@ -1,4 +1,6 @@
 // What is made of a log that replays, in a lent buffer: its dump, the smaller log.
+#![tactic(auto)]
+
 ghost use Rattle.std.specs.Prelude.{◌≡◌, length};
 ghost use Rattle.made.specs.How.{source_of, handed_of, handed_in};
 

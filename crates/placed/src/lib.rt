@@ -1,4 +1,6 @@
 // Whether a record is refused, or where it goes in the flat arrays, and what it does to the one element that is there.
+#![tactic(auto)]
+
 ghost use Rattle.std.specs.Prelude.{◌≡◌, ◌<◌};
 ghost use Rattle.encoder.specs.Encoder.{on_pins, on_cnfg};
 ghost use Rattle.pwm.specs.Pwm.{on_write};

@@ -1,4 +1,6 @@
 // What a command that makes a log or a dump writes: the bytes that a call has made, for standard output, or its refusal, for standard error.
+#![tactic(auto)]
+
 ghost use Rattle.printed.specs.Printed.{Printing};
 
 // How many bytes, and whether they say a refusal.

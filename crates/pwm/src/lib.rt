@@ -1,4 +1,6 @@
 // One PWM channel: its registers, and the wave that ticks move.
+#![tactic(auto)]
+
 ghost use Rattle.std.specs.Prelude.{◌≡◌, true};
 ghost use Rattle.pwm.specs.Pwm.{mode, on_ticks, on_write, register_of, fresh};
 ghost use Rattle.pwm.specs.How.{inv, at, moved, climbed, wrapped, steps_of, until_zero};

@@ -1,4 +1,6 @@
 // The rate finder: the divider choice and X whose rate is nearest to a wanted one, and the rate that a choice and X give.
+#![tactic(auto)]
+
 ghost use Rattle.std.specs.Prelude.{◌≡◌, ◌≤◌, ◌<◌};
 ghost use Rattle.rate.specs.Rate.{pwm, spi, rate_of, rated_numbers, Answer};
 ghost use Rattle.rate.specs.How.{Fair, Asked, pair_of};

@@ -1,4 +1,6 @@
 // The counts next to a wanted rate: of the finest divider whose counts go past it, and the nearer of the two.
+#![tactic(auto)]
+
 ghost use Rattle.std.specs.Prelude.{◌≡◌, ◌<◌, ◌^◌};
 ghost use Rattle.rate_counts.specs.How.{Fit, Brackets, Around, undivided_of, coarser_of, nearer_of};
 

@@ -1,4 +1,6 @@
 // What `rvz pwm`, `spi`, `pwm-rate` and `spi-rate` print.
+#![tactic(auto)]
+
 ghost use Rattle.std.specs.Prelude.{◌≡◌};
 ghost use Rattle.io.specs.Counts.{IsPrefixLen};
 ghost use Rattle.decimal.specs.Put.{Put};

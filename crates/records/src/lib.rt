@@ -1,4 +1,6 @@
 // What a record's fields name, by the table of kinds, blocks, channels and registers; or its refusal.
+#![tactic(auto)]
+
 ghost use Rattle.std.specs.Prelude.{◌≡◌, cond};
 ghost use Rattle.records.specs.Record.{fitting, select_range, pwm_cnfg, pwm_range, i2c_range, write_of, read_of, pins_of, ticks_of, answer_of, named_of, refusal_of};
 

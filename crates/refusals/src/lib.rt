@@ -1,4 +1,6 @@
 // What refuses a record that is decoded, by its edition and the SELECT and the I2C of its bank: 9, 10, 11, 16 or 18, or 0.
+#![tactic(auto)]
+
 ghost use Rattle.std.specs.Prelude.{◌≡◌};
 ghost use Rattle.refusals.specs.How.{unrouted, cnfg_refusal, select_refusal, go_refusal, i2c_refusal, refusal_of};
 

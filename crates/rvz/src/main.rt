@@ -2,6 +2,8 @@
 // has to say goes to standard output, but for the refusal of a dump, of a smaller log or of records: built in one buffer by a crate for
 // each command, every byte promised, and written at once; the readings of a stream are written before, as they come. What is read and
 // written no contract can say: the functions here promise how many bytes there are, and no more.
+#![tactic(auto)]
+
 ghost use Rattle.std.specs.Prelude.{◌≡◌, false, ◌≤◌, length};
 ghost use Rattle.io.specs.Counts.{IsPrefixLen};
 

@@ -1,4 +1,6 @@
 // The function select: which blocks are routed to the 20 DIO pins of an ELVIS III, or to a myRIO's expansion port.
+#![tactic(auto)]
+
 ghost use Rattle.std.specs.Prelude.{◌≡◌, true};
 ghost use Rattle.select.specs.Select.{field_of, encoder_routed, pwm_routed, i2c_routed};
 ghost use Rattle.select.specs.How.{pwm_pins};

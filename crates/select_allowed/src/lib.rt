@@ -1,4 +1,6 @@
 // Which SELECTs are allowed, of those of an ELVIS III: all pins at once, in a number with two bits for each.
+#![tactic(auto)]
+
 ghost use Rattle.std.specs.Prelude.{◌≡◌};
 ghost use Rattle.select_allowed.specs.Allowed.{allowed};
 ghost use Rattle.select_allowed.specs.How.{threes, twos};

@@ -1,4 +1,6 @@
 // What `rvz shrink` writes: the smaller log, for standard output, or the log's refusal, for standard error.
+#![tactic(auto)]
+
 ghost use Rattle.std.specs.Prelude.{◌≤◌, length};
 ghost use Rattle.io.specs.Counts.{IsPrefixLen};
 ghost use Rattle.shrink.specs.Shrink.{smaller_of};

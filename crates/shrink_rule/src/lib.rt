@@ -1,4 +1,6 @@
 // Which records change nothing: the rule, record by record, with each encoder's previous pins.
+#![tactic(auto)]
+
 ghost use Rattle.std.specs.Prelude.{◌≡◌, cond, ◌+◌, ◌<◌, ◌≤◌, length, take, drop};
 ghost use Rattle.shrink_rule.specs.How.{sort_by, sort_of, GoodSort, forgotten, drops_by, met_by};
 

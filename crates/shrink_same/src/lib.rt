@@ -1,1 +1,3 @@
 // What is shown of the smaller log; there is no code.
+#![tactic(auto)]
+

@@ -1,4 +1,6 @@
 // What a record says to encoders, and what is kept of one encoder while its stretches are found.
+#![tactic(auto)]
+
 ghost use Rattle.std.specs.Prelude.{◌≡◌, true, ◌+◌, ◌<◌, ◌≤◌, length, take, drop};
 ghost use Rattle.laws.specs.Each.{map_from};
 ghost use Rattle.encoder.specs.Encoder.{counts_in_quadrature};

@@ -1,5 +1,7 @@
 // What `rvz sign` prints: each stretch that `rvz_sign` finds on a line of words, then what the log's replay says. The text is built in one
 // buffer and written at once.
+#![tactic(auto)]
+
 ghost use Rattle.std.specs.Prelude.{◌≡◌, ◌+◌, ◌-◌, ◌*◌, ◌<◌, ◌≤◌, length, unsigned_abs};
 ghost use Rattle.io.specs.Counts.{IsPrefixLen};
 ghost use Rattle.decimal.specs.Put.{Put};

@@ -1,4 +1,6 @@
 // A stream on bytes that the caller lends: the state is loaded, a chunk is taken, and the state is kept again.
+#![tactic(auto)]
+
 ghost use Rattle.std.specs.Prelude.{◌≡◌, length};
 ghost use Rattle.fold.specs.Output.{bytes_of, over};
 ghost use Rattle.numbers.specs.Bytes.{le_bytes};

@@ -1,4 +1,6 @@
 // What `rvz stream` prints: each reading as soon as its record is there, and how the stream ended.
+#![tactic(auto)]
+
 ghost use Rattle.std.specs.Prelude.{◌≡◌, ◌≤◌, length};
 ghost use Rattle.io.specs.Counts.{IsPrefixLen};
 ghost use Rattle.decimal.specs.Put.{Put};

@@ -1,4 +1,6 @@
 // Words, numbers and lines, put as bytes into a lent slice. Every function answers the place after what it put.
+#![tactic(auto)]
+
 ghost use Rattle.std.specs.Prelude.{◌++◌, ◌+◌, ◌≤◌, length};
 ghost use Rattle.decimal.specs.Digits.{digits_of};
 ghost use Rattle.decimal.specs.Put.{Put};

@@ -1,4 +1,6 @@
 // What the commands print in one line: rates, verdicts, refusals. Every function answers the place after what it put.
+#![tactic(auto)]
+
 ghost use Rattle.decimal.specs.Put.{Put};
 ghost use Rattle.text.specs.Text.{pair_text, rate_text, refused_text, refused_record_text, no_number_text, different_text};
 

@@ -1,4 +1,6 @@
 // What a replay prints: each reading on its own line, and how it ended. Every function answers the place after what it put.
+#![tactic(auto)]
+
 ghost use Rattle.std.specs.Prelude.{◌+◌, ◌*◌, ◌≤◌, length};
 ghost use Rattle.decimal.specs.Digits.{digits_of};
 ghost use Rattle.decimal.specs.Put.{Put};

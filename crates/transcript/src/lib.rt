@@ -1,4 +1,6 @@
 // A transcript, readings of 8 bytes each in log order, beside the readings of a log that replays.
+#![tactic(auto)]
+
 ghost use Rattle.std.specs.Prelude.{◌≡◌, ◌≤◌, ◌&&◌, length, ◌==◌};
 ghost use Rattle.transcript.specs.Judge.{neg, Answer};
 ghost use Rattle.transcript.specs.How.{Ready, Plainly};

@@ -1,5 +1,7 @@
 // The value change dump of docs/WAVEFORM.md: its lines, and the bytes of the ones that name a wire. Wire 2e is pin A of encoder e and 2e + 1
 // its pin B; encoder e is encoder e % 10 of bank e / 10.
+#![tactic(auto)]
+
 ghost use Rattle.std.specs.Prelude.{◌≡◌, ◌<◌};
 ghost use Rattle.vcd.specs.Lines.{code_of, var_of};
 

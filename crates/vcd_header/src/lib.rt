@@ -1,4 +1,6 @@
 // The header of a dump, put into a lent slice: a wire for each pin of each encoder that has pins. Every function answers the place after what it put.
+#![tactic(auto)]
+
 ghost use Rattle.std.specs.Prelude.{[], ◌∷◌, ◌<◌};
 ghost use Rattle.decimal.specs.Put.{Put};
 ghost use Rattle.vcd.specs.declared.Line.TheVariants.{Var, Unknown};

@@ -1,4 +1,6 @@
 // One line of a dump, read.
+#![tactic(auto)]
+
 ghost use Rattle.std.specs.Prelude.{◌≡◌, ◌≤◌, length, drop};
 ghost use Rattle.decimal.specs.Decimal.{decimal_of};
 ghost use Rattle.vcd.specs.How.{same as sameBytes, wire_of, var_with, head_of, number_of, time_of, value_of, change_in, line_of};

@@ -1,4 +1,6 @@
 // A reader of dumps line by line: what each line makes of it.
+#![tactic(auto)]
+
 ghost use Rattle.std.specs.Prelude.{◌≡◌, cond, ◌&&◌, ◌+◌, ◌<◌, eqb};
 ghost use Rattle.vcd.specs.How.{refused as refusedOf, follows as followsOf, fixed_turn, var_turn, unknown_turn, time_turn, pin_of, taken as taken_of, pinned as pinned_of, change_turn, turn_of, opening as openingOf, whole as whole_of};
 ghost use Rattle.vcd_read.specs.Bounds.{Bounded};

@@ -1,4 +1,6 @@
 // The changes of a dump, put into a lent slice. Every function answers the place after what it put.
+#![tactic(auto)]
+
 ghost use Rattle.std.specs.Prelude.{cond, [], ◌∷◌, ◌+◌, ◌<◌};
 ghost use Rattle.decimal.specs.Put.{Put};
 ghost use Rattle.vcd.specs.declared.Line.TheVariants.{Time, Change};

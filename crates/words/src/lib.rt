@@ -1,4 +1,6 @@
 // The one number that answers each call for C: the refusal in the low byte, 0 if none, and above it the parts of the answer.
+#![tactic(auto)]
+
 ghost use Rattle.std.specs.Prelude.{◌≡◌, ◌<◌, ◌^◌};
 ghost use Rattle.transcript.specs.Judge.{verdict_numbers};
 ghost use Rattle.rate.specs.Rate.{found_numbers, rated_numbers};

@@ -1,4 +1,6 @@
 // What `rvz write` writes: a log made of the records on standard input, for standard output, or its refusal, for standard error.
+#![tactic(auto)]
+
 ghost use Rattle.std.specs.Prelude.{◌≤◌, length};
 ghost use Rattle.io.specs.Counts.{IsPrefixLen};
 ghost use Rattle.decimal.specs.declared.Decimal.TheVariants.{Number};

@@ -22,8 +22,8 @@ put_at t = and 1 put-kinds.ps (is 1 put-kinds.ps μ_put t) put.Pre
 abbrev put_below : ℕ → In 1 put-kinds.ps
 put_below t = and 1 put-kinds.ps (falls 1 put-kinds.ps ◌<◌ μ_put t) put.Pre
 
-pub +put-spec : {M : Type 1} → statement M
-+put-spec =
+pub +put_spec : {M : Type 1} → statement M
++put_spec =
     close μ_put λ t.
     put-lts.spec (ascii-reads.Asked, ascii-reads.Learnt, put-byte-reads.Asked, put-byte-reads.Learnt, put_below t, put.Post) (put_at t) put.Post
     (λ c κs. search rules)

@@ -4,8 +4,8 @@ use Rattle.decimal.proofs.Puts.{put_full}
 use Rattle.decimal.proofs.put_byte.Statement.{statement}
 use Rattle.decimal.proofs.put_byte.Tie as tie
 
-pub put-byte-spec : {M : Type 1} → statement M
-put-byte-spec =
+pub put_byte_spec : {M : Type 1} → statement M
+put_byte_spec =
     tie.close
     (tie.spec
     (λ c. search put_full)

@@ -33,8 +33,8 @@ module _ (c n : ℕ) (h : 1 ≤ c) (l : c ≤ 7) (e : n ≡ get_or dividers (c -
   most : n ≤ 64
   most = rw entry (pow_mono {j = 6} (omega arith))
 
-pub divider-spec : {M : Type 1} → statement M
-divider-spec =
+pub divider_spec : {M : Type 1} → statement M
+divider_spec =
     tie.close
     (tie.spec
     (λ c. (search cases, search rules))

@@ -4,8 +4,8 @@ use Rattle.encoder_count.proofs.Machine.{down}
 use Rattle.encoder_count.proofs.wrapping_down.Statement.{statement}
 use Rattle.encoder_count.proofs.wrapping_down.Tie as tie
 
-pub wrapping-down-spec : {M : Type 1} → statement M
-wrapping-down-spec =
+pub wrapping_down_spec : {M : Type 1} → statement M
+wrapping_down_spec =
     tie.close
     (tie.spec
     (λ c κs. search rules)

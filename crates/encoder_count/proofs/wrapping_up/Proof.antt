@@ -4,8 +4,8 @@ use Rattle.encoder_count.proofs.Machine.{up}
 use Rattle.encoder_count.proofs.wrapping_up.Statement.{statement}
 use Rattle.encoder_count.proofs.wrapping_up.Tie as tie
 
-pub wrapping-up-spec : {M : Type 1} → statement M
-wrapping-up-spec =
+pub wrapping_up_spec : {M : Type 1} → statement M
+wrapping_up_spec =
     tie.close
     (tie.spec
     (λ c κs. search rules)

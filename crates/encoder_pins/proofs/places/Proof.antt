@@ -36,9 +36,9 @@ rule xs all long old new =
     ∙ ap (λ (p : ℕ). (4 + place (k % 4) - p) % 4) (ap place first ∙ two old)
     ∙ ap (λ (p : ℕ). (4 + p - place old) % 4) (ap place second ∙ two new)
 
-pub places-spec : {M : Type 1} → statement M
+pub places_spec : {M : Type 1} → statement M
 unfolding right
-places-spec =
+places_spec =
     tie.close
     (tie.spec
     (λ c. search rules)

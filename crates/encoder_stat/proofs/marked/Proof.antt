@@ -8,9 +8,9 @@ use Rattle.encoder_stat.proofs.Marks.{by_direction}
 use Rattle.encoder_stat.proofs.marked.Statement.{statement}
 use Rattle.encoder_stat.proofs.marked.Tie as tie
 
-pub marked-spec : {M : Type 1} → statement M
+pub marked_spec : {M : Type 1} → statement M
 unfolding stat_of
-marked-spec =
+marked_spec =
     tie.close
     (tie.spec
     (λ c. search rules)

@@ -4,8 +4,8 @@ use Rattle.encoder_stat.proofs.Steps.{step_at, step_between}
 use Rattle.encoder_stat.proofs.marked_down.Statement.{statement}
 use Rattle.encoder_stat.proofs.marked_down.Tie as tie
 
-pub marked-down-spec : {M : Type 1} → statement M
-marked-down-spec =
+pub marked_down_spec : {M : Type 1} → statement M
+marked_down_spec =
     tie.close
     (tie.spec
     (λ c κs. search rules)

@@ -8,9 +8,9 @@ use Rattle.encoder_stat.proofs.Marks.{by_direction}
 use Rattle.encoder_stat.proofs.marked_past_signed.Statement.{statement}
 use Rattle.encoder_stat.proofs.marked_past_signed.Tie as tie
 
-pub marked-past-signed-spec : {M : Type 1} → statement M
+pub marked_past_signed_spec : {M : Type 1} → statement M
 unfolding stat_of
-marked-past-signed-spec =
+marked_past_signed_spec =
     tie.close
     (tie.spec
     (λ c. search rules)

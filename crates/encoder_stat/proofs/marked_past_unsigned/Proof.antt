@@ -8,9 +8,9 @@ use Rattle.encoder_stat.proofs.Marks.{by_direction}
 use Rattle.encoder_stat.proofs.marked_past_unsigned.Statement.{statement}
 use Rattle.encoder_stat.proofs.marked_past_unsigned.Tie as tie
 
-pub marked-past-unsigned-spec : {M : Type 1} → statement M
+pub marked_past_unsigned_spec : {M : Type 1} → statement M
 unfolding stat_of
-marked-past-unsigned-spec =
+marked_past_unsigned_spec =
     tie.close
     (tie.spec
     (λ c. search rules)

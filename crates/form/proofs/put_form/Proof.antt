@@ -7,14 +7,14 @@ use borrow.Author.Rules.{rules}
 use Rattle.form.proofs.put_form.Statement.{statement}
 use Rattle.form.proofs.put_form.Tie as tie
 
-abbrev invariant-loop : tie.invariant-loop
+abbrev invariant-loop : tie.invariant-loop-i
 invariant-loop text₀ at form numbers end₀ k₀ i₀ text end k i = Forming text₀ at form numbers text end k i
 
-abbrev decreases-loop : tie.decreases-loop
+abbrev decreases-loop : tie.decreases-loop-i
 decreases-loop text₀ at form numbers end₀ k₀ i₀ text end k i = length form - i
 
-pub put-form-spec : {M : Type 1} → statement M
-put-form-spec =
+pub put_form_spec : {M : Type 1} → statement M
+put_form_spec =
     tie.close
     (tie.spec
     invariant-loop

@@ -4,8 +4,8 @@ use borrow.Author.Rules.{rules}
 use Rattle.form.proofs.put_part.Statement.{statement}
 use Rattle.form.proofs.put_part.Tie as tie
 
-pub put-part-spec : {M : Type 1} → statement M
-put-part-spec =
+pub put_part_spec : {M : Type 1} → statement M
+put_part_spec =
     tie.close
     (tie.spec
     (λ c κs. search rules)

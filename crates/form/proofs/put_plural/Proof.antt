@@ -4,8 +4,8 @@ use borrow.Author.Rules.{rules}
 use Rattle.form.proofs.put_plural.Statement.{statement}
 use Rattle.form.proofs.put_plural.Tie as tie
 
-pub put-plural-spec : {M : Type 1} → statement M
-put-plural-spec =
+pub put_plural_spec : {M : Type 1} → statement M
+put_plural_spec =
     tie.close
     (tie.spec
     (λ c. search one_alone)

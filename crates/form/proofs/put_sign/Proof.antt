@@ -4,8 +4,8 @@ use borrow.Author.Rules.{rules}
 use Rattle.form.proofs.put_sign.Statement.{statement}
 use Rattle.form.proofs.put_sign.Tie as tie
 
-pub put-sign-spec : {M : Type 1} → statement M
-put-sign-spec =
+pub put_sign_spec : {M : Type 1} → statement M
+put_sign_spec =
     tie.close
     (tie.spec
     (λ c. search no_sign)

@@ -3,8 +3,8 @@ use Rattle.i2c_code.proofs.States.{in_idle, in_tx, in_rx}
 use Rattle.i2c_code.proofs.matches.Statement.{statement}
 use Rattle.i2c_code.proofs.matches.Tie as tie
 
-pub matches-spec : {M : Type 1} → statement M
-matches-spec =
+pub matches_spec : {M : Type 1} → statement M
+matches_spec =
     tie.close
     (tie.spec
     (λ c. search rules)

@@ -9,10 +9,10 @@ use Rattle.rate_counts.proofs.Around.{first_some, first_brackets, coarser_bracke
 use Rattle.rate_counts.proofs.finest.Statement.{statement}
 use Rattle.rate_counts.proofs.finest.Tie as tie
 
-abbrev invariant-loop : tie.invariant-loop
+abbrev invariant-loop : tie.invariant-loop-a
 invariant-loop clock step a₀ a = Brackets clock step a
 
-abbrev decreases-loop : tie.decreases-loop
+abbrev decreases-loop : tie.decreases-loop-a
 decreases-loop clock step a₀ a = a.low
 
 first_at : (C s : ℕ) → Fit C s → (a : Bracket) → a ≡ undivided_of C s → Brackets C s a
@@ -24,8 +24,8 @@ less a b h e = rw e (omega arith)
 again : (C s : ℕ) → Fit C s → (a b : Bracket) → Brackets C s a → 32_768 ≤ a.low / 2 → b ≡ coarser_of a → Brackets C s b
 again C s fit a b h l e = rw e (coarser_brackets C s fit a h (omega arith))
 
-pub finest-spec : {M : Type 1} → statement M
-finest-spec =
+pub finest_spec : {M : Type 1} → statement M
+finest_spec =
     tie.close
     (tie.spec
     invariant-loop
@@ -33,6 +33,6 @@ finest-spec =
     (λ c κs. search first_some)
     (λ c. search first_at)
     (λ c κs. search rules)
-    (λ c. let l : 0 < c.before.before.before.loop.a.low = omega arith in search less)
-    (λ c. let full : 32_768 ≤ c.before.before.before.loop.a.low / 2 = omega arith in search again)
+    (λ c. let l : 0 < c.before.before.before.loop-a.a.low = omega arith in search less)
+    (λ c. let full : 32_768 ≤ c.before.before.before.loop-a.a.low / 2 = omega arith in search again)
     (λ c. search rules))

@@ -8,8 +8,8 @@ use Rattle.rate_counts.proofs.nearer.Tie as tie
 
 ruleset compared = (product_fits, short_near, over_near, le_refl, le-add_right, rules)
 
-pub nearer-spec : {M : Type 1} → statement M
-nearer-spec =
+pub nearer_spec : {M : Type 1} → statement M
+nearer_spec =
     tie.close
     (tie.spec
     (λ c. record { fits = search under_fits })

@@ -3,6 +3,6 @@ use Rattle.laws.proofs.Cases.{cases}
 use Rattle.records.proofs.encoder_read.Statement.{statement}
 use Rattle.records.proofs.encoder_read.Tie as tie
 
-pub encoder-read-spec : {M : Type 1} → statement M
+pub encoder_read_spec : {M : Type 1} → statement M
 unfolding read_of
-encoder-read-spec = tie.close (tie.spec (λ c. search cases) (λ c. search cases) (λ c. search cases))
+encoder_read_spec = tie.close (tie.spec (λ c. search cases) (λ c. search cases) (λ c. search cases))

@@ -3,9 +3,9 @@ use Rattle.laws.proofs.Cases.{cases}
 use Rattle.records.proofs.encoder_write.Statement.{statement}
 use Rattle.records.proofs.encoder_write.Tie as tie
 
-pub encoder-write-spec : {M : Type 1} → statement M
+pub encoder_write_spec : {M : Type 1} → statement M
 unfolding write_of
-encoder-write-spec =
+encoder_write_spec =
     tie.close
     (tie.spec
     (λ c. search cases)

@@ -5,9 +5,9 @@ use borrow.Author.Rules.{rules}
 use Rattle.records.proofs.i2c_read.Statement.{statement}
 use Rattle.records.proofs.i2c_read.Tie as tie
 
-pub i2c-read-spec : {M : Type 1} → statement M
+pub i2c_read_spec : {M : Type 1} → statement M
 unfolding read_of
-i2c-read-spec =
+i2c_read_spec =
     tie.close
     (tie.spec
     (λ c. search cases)

@@ -5,6 +5,6 @@ use borrow.Author.Rules.{rules}
 use Rattle.records.proofs.i2c_write.Statement.{statement}
 use Rattle.records.proofs.i2c_write.Tie as tie
 
-pub i2c-write-spec : {M : Type 1} → statement M
+pub i2c_write_spec : {M : Type 1} → statement M
 unfolding write_of
-i2c-write-spec = tie.close (tie.spec (λ c. search cases) (λ c. search cases) (λ c κs. search rules) (λ c κs. search rules) (λ c. search i2c_fitting))
+i2c_write_spec = tie.close (tie.spec (λ c. search cases) (λ c. search cases) (λ c κs. search rules) (λ c κs. search rules) (λ c. search i2c_fitting))

@@ -3,6 +3,6 @@ use Rattle.laws.proofs.Cases.{cases}
 use Rattle.records.proofs.pwm_read.Statement.{statement}
 use Rattle.records.proofs.pwm_read.Tie as tie
 
-pub pwm-read-spec : {M : Type 1} → statement M
+pub pwm_read_spec : {M : Type 1} → statement M
 unfolding read_of
-pwm-read-spec = tie.close (tie.spec (λ c. search cases) (λ c. search cases) (λ c. search cases))
+pwm_read_spec = tie.close (tie.spec (λ c. search cases) (λ c. search cases) (λ c. search cases))

@@ -5,6 +5,6 @@ use borrow.Author.Rules.{rules}
 use Rattle.records.proofs.pwm_write.Statement.{statement}
 use Rattle.records.proofs.pwm_write.Tie as tie
 
-pub pwm-write-spec : {M : Type 1} → statement M
+pub pwm_write_spec : {M : Type 1} → statement M
 unfolding write_of
-pwm-write-spec = tie.close (tie.spec (λ c. search cases) (λ c. search cases) (λ c κs. search rules) (λ c κs. search rules) (λ c. search pwm_fitting))
+pwm_write_spec = tie.close (tie.spec (λ c. search cases) (λ c. search cases) (λ c κs. search rules) (λ c κs. search rules) (λ c. search pwm_fitting))

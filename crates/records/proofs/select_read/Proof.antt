@@ -3,6 +3,6 @@ use Rattle.laws.proofs.Cases.{cases}
 use Rattle.records.proofs.select_read.Statement.{statement}
 use Rattle.records.proofs.select_read.Tie as tie
 
-pub select-read-spec : {M : Type 1} → statement M
+pub select_read_spec : {M : Type 1} → statement M
 unfolding read_of
-select-read-spec = tie.close (tie.spec (λ c. search cases) (λ c. search cases) (λ c. search cases))
+select_read_spec = tie.close (tie.spec (λ c. search cases) (λ c. search cases) (λ c. search cases))

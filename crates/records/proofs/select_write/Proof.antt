@@ -5,6 +5,6 @@ use borrow.Author.Rules.{rules}
 use Rattle.records.proofs.select_write.Statement.{statement}
 use Rattle.records.proofs.select_write.Tie as tie
 
-pub select-write-spec : {M : Type 1} → statement M
+pub select_write_spec : {M : Type 1} → statement M
 unfolding write_of
-select-write-spec = tie.close (tie.spec (λ c. search cases) (λ c. search cases) (λ c κs. search rules) (λ c κs. search rules) (λ c. search select_fitting))
+select_write_spec = tie.close (tie.spec (λ c. search cases) (λ c. search cases) (λ c κs. search rules) (λ c κs. search rules) (λ c. search select_fitting))

@@ -3,5 +3,5 @@ use borrow.Author.Rules.{rules}
 use Rattle.select.proofs.port_pwm.Statement.{statement}
 use Rattle.select.proofs.port_pwm.Tie as tie
 
-pub port-pwm-spec : {M : Type 1} → statement M
-port-pwm-spec = tie.close (tie.spec (λ c. search rules) (λ c. search rules) (λ c. search port_bit) (λ c. search port_no_bit))
+pub port_pwm_spec : {M : Type 1} → statement M
+port_pwm_spec = tie.close (tie.spec (λ c. search rules) (λ c. search rules) (λ c. search port_bit) (λ c. search port_no_bit))

@@ -4,5 +4,5 @@ use borrow.Author.Rules.{rules}
 use Rattle.select_allowed.proofs.allowed.Statement.{statement}
 use Rattle.select_allowed.proofs.allowed.Tie as tie
 
-pub allowed-spec : {M : Type 1} → statement M
-allowed-spec = tie.close (tie.spec (λ c. search port_allowed) (λ c κs. search rules) (λ c κs. search rules) (λ c. search fits) (λ c. search pins_allowed))
+pub allowed_spec : {M : Type 1} → statement M
+allowed_spec = tie.close (tie.spec (λ c. search port_allowed) (λ c κs. search rules) (λ c κs. search rules) (λ c. search fits) (λ c. search pins_allowed))

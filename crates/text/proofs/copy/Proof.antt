@@ -9,10 +9,10 @@ use Rattle.text.proofs.Lines.{copy_none, copy_more, copy_all}
 use Rattle.text.proofs.copy.Statement.{statement}
 use Rattle.text.proofs.copy.Tie as tie
 
-abbrev invariant-loop : tie.invariant-loop
+abbrev invariant-loop : tie.invariant-loop-i
 invariant-loop out₀ at word i₀ out i = (i ≤ length word) × (length out ≡ length out₀) × Put out₀ at (take i word) out (at + i)
 
-abbrev decreases-loop : tie.decreases-loop
+abbrev decreases-loop : tie.decreases-loop-i
 decreases-loop out₀ at word i₀ out i = length word - i
 
 pub copy_spec : {M : Type 1} → statement M

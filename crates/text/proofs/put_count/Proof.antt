@@ -4,8 +4,8 @@ use Rattle.decimal.proofs.Puts.{put_then}
 use Rattle.text.proofs.put_count.Statement.{statement}
 use Rattle.text.proofs.put_count.Tie as tie
 
-pub put-count-spec : {M : Type 1} → statement M
-put-count-spec =
+pub put_count_spec : {M : Type 1} → statement M
+put_count_spec =
     tie.close
     (tie.spec
     (λ c κs. search rules)

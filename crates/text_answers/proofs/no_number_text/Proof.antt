@@ -4,8 +4,8 @@ use Rattle.decimal.proofs.Puts.{put_then}
 use Rattle.text_answers.proofs.no_number_text.Statement.{statement}
 use Rattle.text_answers.proofs.no_number_text.Tie as tie
 
-pub no-number-text-spec : {M : Type 1} → statement M
-no-number-text-spec =
+pub no_number_text_spec : {M : Type 1} → statement M
+no_number_text_spec =
     tie.close
     (tie.spec
     (λ c κs. search rules)

@@ -4,8 +4,8 @@ use Rattle.decimal.proofs.Puts.{put_then}
 use Rattle.text_answers.proofs.pair_text.Statement.{statement}
 use Rattle.text_answers.proofs.pair_text.Tie as tie
 
-pub pair-text-spec : {M : Type 1} → statement M
-pair-text-spec =
+pub pair_text_spec : {M : Type 1} → statement M
+pair_text_spec =
     tie.close
     (tie.spec
     (λ c. search rules)

@@ -4,8 +4,8 @@ use Rattle.text_readings.proofs.Readings.{reading}
 use Rattle.text_readings.proofs.put_reading.Statement.{statement}
 use Rattle.text_readings.proofs.put_reading.Tie as tie
 
-pub put-reading-spec : {M : Type 1} → statement M
-put-reading-spec =
+pub put_reading_spec : {M : Type 1} → statement M
+put_reading_spec =
     tie.close
     (tie.spec
     (λ c. search rules)

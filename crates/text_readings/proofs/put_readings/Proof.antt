@@ -9,14 +9,14 @@ use Rattle.text_readings.proofs.Readings.{readings_none, readings_more, readings
 use Rattle.text_readings.proofs.put_readings.Statement.{statement}
 use Rattle.text_readings.proofs.put_readings.Tie as tie
 
-abbrev invariant-loop : tie.invariant-loop
+abbrev invariant-loop : tie.invariant-loop-i
 invariant-loop out₀ readings n end₀ i₀ out end i = (i ≤ n) × Put out₀ 0 (lines_of (numbers_in i readings)) out end
 
-abbrev decreases-loop : tie.decreases-loop
+abbrev decreases-loop : tie.decreases-loop-i
 decreases-loop out₀ readings n end₀ i₀ out end i = n - i
 
-pub put-readings-spec : {M : Type 1} → statement M
-put-readings-spec =
+pub put_readings_spec : {M : Type 1} → statement M
+put_readings_spec =
     tie.close
     (tie.spec
     invariant-loop

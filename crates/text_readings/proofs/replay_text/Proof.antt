@@ -4,8 +4,8 @@ use Rattle.decimal.proofs.Puts.{put_then}
 use Rattle.text_readings.proofs.replay_text.Statement.{statement}
 use Rattle.text_readings.proofs.replay_text.Tie as tie
 
-pub replay-text-spec : {M : Type 1} → statement M
-replay-text-spec =
+pub replay_text_spec : {M : Type 1} → statement M
+replay_text_spec =
     tie.close
     (tie.spec
     (λ c κs. search rules)

@@ -4,9 +4,9 @@ use borrow.Author.Rules.{rules}
 use Rattle.vcd.proofs.var_line.Statement.{statement}
 use Rattle.vcd.proofs.var_line.Tie as tie
 
-pub var-line-spec : {M : Type 1} → statement M
+pub var_line_spec : {M : Type 1} → statement M
 unfolding var_of
-var-line-spec =
+var_line_spec =
     tie.close
     (tie.spec
     (λ c κs. search rules)
@@ -20,4 +20,4 @@ var-line-spec =
     (λ c. search rules)
     (λ c. search rules)
     (λ c. search rules)
-    (λ c. rw (c.before.before.before.before.before.code.ensures, c.before.before.before.before.small.ensures, c.before.before.before.small2.ensures, c.before.before.small3.ensures)))
+    (λ c. rw (c.before.before.before.before.before.code-letter.ensures, c.before.before.before.before.small-bank.ensures, c.before.before.before.small-encoder.ensures, c.before.before.small-pin.ensures)))

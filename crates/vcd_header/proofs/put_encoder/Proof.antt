@@ -4,8 +4,8 @@ use Rattle.vcd_header.proofs.Wires.{no_wire, two_wires}
 use Rattle.vcd_header.proofs.put_encoder.Statement.{statement}
 use Rattle.vcd_header.proofs.put_encoder.Tie as tie
 
-pub put-encoder-spec : {M : Type 1} → statement M
-put-encoder-spec =
+pub put_encoder_spec : {M : Type 1} → statement M
+put_encoder_spec =
     tie.close
     (tie.spec
     (λ c. search no_wire)

@@ -4,8 +4,8 @@ use Rattle.vcd_header.proofs.Wires.{unknown_put}
 use Rattle.vcd_header.proofs.put_unknown.Statement.{statement}
 use Rattle.vcd_header.proofs.put_unknown.Tie as tie
 
-pub put-unknown-spec : {M : Type 1} → statement M
-put-unknown-spec =
+pub put_unknown_spec : {M : Type 1} → statement M
+put_unknown_spec =
     tie.close
     (tie.spec
     (λ c κs. search rules)

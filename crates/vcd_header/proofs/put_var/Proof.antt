@@ -4,8 +4,8 @@ use Rattle.vcd_header.proofs.Wires.{var_put}
 use Rattle.vcd_header.proofs.put_var.Statement.{statement}
 use Rattle.vcd_header.proofs.put_var.Tie as tie
 
-pub put-var-spec : {M : Type 1} → statement M
-put-var-spec =
+pub put_var_spec : {M : Type 1} → statement M
+put_var_spec =
     tie.close
     (tie.spec
     (λ c κs. search rules)

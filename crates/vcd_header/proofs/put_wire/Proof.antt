@@ -4,8 +4,8 @@ use Rattle.vcd_header.proofs.Wires.{wire_declared, wire_unknown}
 use Rattle.vcd_header.proofs.put_wire.Statement.{statement}
 use Rattle.vcd_header.proofs.put_wire.Tie as tie
 
-pub put-wire-spec : {M : Type 1} → statement M
-put-wire-spec =
+pub put_wire_spec : {M : Type 1} → statement M
+put_wire_spec =
     tie.close
     (tie.spec
     (λ c κs. search rules)

@@ -12,14 +12,14 @@ use Rattle.vcd_header.proofs.Wires.{wires_none, wires_next, wires_done}
 use Rattle.vcd_header.proofs.put_wires.Statement.{statement}
 use Rattle.vcd_header.proofs.put_wires.Tie as tie
 
-abbrev invariant-loop : tie.invariant-loop
+abbrev invariant-loop : tie.invariant-loop-e
 invariant-loop out₀ at declares pins end₀ e₀ out end e = (e ≤ 20) × Put out₀ at (text_of (wires_from (wire_line declares) 0 (take e pins))) out end
 
-abbrev decreases-loop : tie.decreases-loop
+abbrev decreases-loop : tie.decreases-loop-e
 decreases-loop out₀ at declares pins end₀ e₀ out end e = 20 - e
 
-pub put-wires-spec : {M : Type 1} → statement M
-put-wires-spec =
+pub put_wires_spec : {M : Type 1} → statement M
+put_wires_spec =
     tie.close
     (tie.spec
     invariant-loop

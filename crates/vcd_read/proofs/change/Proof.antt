@@ -4,8 +4,8 @@ use Rattle.vcd_read.proofs.Laws.{change_none, change_some}
 use Rattle.vcd_read.proofs.change.Statement.{statement}
 use Rattle.vcd_read.proofs.change.Tie as tie
 
-pub change-spec : {M : Type 1} → statement M
-change-spec =
+pub change_spec : {M : Type 1} → statement M
+change_spec =
     tie.close
     (tie.spec
     (λ c. search change_none)

@@ -5,8 +5,8 @@ use Rattle.vcd_read.proofs.Laws.{var_found, var_other}
 use Rattle.vcd_read.proofs.declaration.Statement.{statement}
 use Rattle.vcd_read.proofs.declaration.Tie as tie
 
-pub declaration-spec : {M : Type 1} → statement M
-declaration-spec =
+pub declaration_spec : {M : Type 1} → statement M
+declaration_spec =
     tie.close
     (tie.spec
     (λ c. search cases)

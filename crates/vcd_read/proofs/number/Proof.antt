@@ -4,8 +4,8 @@ use Rattle.vcd_read.proofs.Laws.{a_number, no_number}
 use Rattle.vcd_read.proofs.number.Statement.{statement}
 use Rattle.vcd_read.proofs.number.Tie as tie
 
-pub number-spec : {M : Type 1} → statement M
-number-spec =
+pub number_spec : {M : Type 1} → statement M
+number_spec =
     tie.close
     (tie.spec
     (λ c. search rules)

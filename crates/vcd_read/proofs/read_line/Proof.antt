@@ -4,8 +4,8 @@ use Rattle.vcd_read.proofs.Laws.{line_none, line_time, line_head, line_change, t
 use Rattle.vcd_read.proofs.read_line.Statement.{statement}
 use Rattle.vcd_read.proofs.read_line.Tie as tie
 
-pub read-line-spec : {M : Type 1} → statement M
-read-line-spec =
+pub read_line_spec : {M : Type 1} → statement M
+read_line_spec =
     tie.close
     (tie.spec
     (λ c. (search line_none, tt))

@@ -9,10 +9,10 @@ use Rattle.vcd_read.proofs.Laws.{same_off, same_differ, same_next, same_done}
 use Rattle.vcd_read.proofs.same.Statement.{statement}
 use Rattle.vcd_read.proofs.same.Tie as tie
 
-abbrev invariant-loop : tie.invariant-loop
+abbrev invariant-loop : tie.invariant-loop-i
 invariant-loop a b i₀ i = (i ≤ length a) × (length a ≡ length b) × (sameBytes a b ≡ sameBytes (drop i a) (drop i b))
 
-abbrev decreases-loop : tie.decreases-loop
+abbrev decreases-loop : tie.decreases-loop-i
 decreases-loop a b i₀ i = length a - i
 
 pub same_spec : {M : Type 1} → statement M

@@ -4,8 +4,8 @@ use Rattle.vcd_read.proofs.Laws.{one_digit, zero_led, not_zero_led}
 use Rattle.vcd_read.proofs.time.Statement.{statement}
 use Rattle.vcd_read.proofs.time.Tie as tie
 
-pub time-spec : {M : Type 1} → statement M
-time-spec =
+pub time_spec : {M : Type 1} → statement M
+time_spec =
     tie.close
     (tie.spec
     (λ c κs. search rules)

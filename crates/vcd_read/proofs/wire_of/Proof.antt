@@ -4,8 +4,8 @@ use Rattle.laws.proofs.Cases.{cases}
 use Rattle.vcd_read.proofs.wire_of.Statement.{statement}
 use Rattle.vcd_read.proofs.wire_of.Tie as tie
 
-pub wire-of-spec : {M : Type 1} → statement M
-wire-of-spec =
+pub wire_of_spec : {M : Type 1} → statement M
+wire_of_spec =
     tie.close
     (tie.spec
     (λ c. search cases)

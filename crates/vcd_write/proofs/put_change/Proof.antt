@@ -4,8 +4,8 @@ use Rattle.vcd_write.proofs.Lines.{change_none, change_some}
 use Rattle.vcd_write.proofs.put_change.Statement.{statement}
 use Rattle.vcd_write.proofs.put_change.Tie as tie
 
-pub put-change-spec : {M : Type 1} → statement M
-put-change-spec =
+pub put_change_spec : {M : Type 1} → statement M
+put_change_spec =
     tie.close
     (tie.spec
     (λ c. search change_none)

@@ -4,8 +4,8 @@ use Rattle.vcd_write.proofs.Lines.{changes_none, changes_put}
 use Rattle.vcd_write.proofs.put_changes.Statement.{statement}
 use Rattle.vcd_write.proofs.put_changes.Tie as tie
 
-pub put-changes-spec : {M : Type 1} → statement M
-put-changes-spec =
+pub put_changes_spec : {M : Type 1} → statement M
+put_changes_spec =
     tie.close
     (tie.spec
     (λ c. search changes_none)

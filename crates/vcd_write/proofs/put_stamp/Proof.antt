@@ -4,8 +4,8 @@ use Rattle.vcd_write.proofs.Lines.{stamp_none, stamp_some}
 use Rattle.vcd_write.proofs.put_stamp.Statement.{statement}
 use Rattle.vcd_write.proofs.put_stamp.Tie as tie
 
-pub put-stamp-spec : {M : Type 1} → statement M
-put-stamp-spec =
+pub put_stamp_spec : {M : Type 1} → statement M
+put_stamp_spec =
     tie.close
     (tie.spec
     (λ c. search stamp_none)

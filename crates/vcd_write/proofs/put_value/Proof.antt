@@ -4,8 +4,8 @@ use Rattle.vcd_write.proofs.Lines.{value_put}
 use Rattle.vcd_write.proofs.put_value.Statement.{statement}
 use Rattle.vcd_write.proofs.put_value.Tie as tie
 
-pub put-value-spec : {M : Type 1} → statement M
-put-value-spec =
+pub put_value_spec : {M : Type 1} → statement M
+put_value_spec =
     tie.close
     (tie.spec
     (λ c κs. search rules)
