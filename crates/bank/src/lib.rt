@@ -8,7 +8,7 @@ use encoder::Encoder;
 use i2c::I2c;
 use pwm::Pwm;
 
-#[derive(Drop)]
+#[derive(Clone, Copy)]
 pub struct Bank {
     pub select: u64,
     pub encoders: [Encoder; 10],

@@ -10,13 +10,13 @@ use encoder::Encoder;
 use i2c::I2c;
 use pwm::Pwm;
 
-#[derive(Drop)]
+#[derive(Clone, Copy)]
 pub struct State {
     pub banks: [Bank; 2],
 }
 
 // Channel i of bank k of n is at n * k + i.
-#[derive(Drop)]
+#[derive(Clone, Copy)]
 pub struct Flat {
     pub selects: [u64; 2],
     pub encoders: [Encoder; 20],

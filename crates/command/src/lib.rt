@@ -8,7 +8,7 @@ ghost use Rattle.command.specs.Asked.{alone_of, of_two, command_of};
 use decimal::Decimal;
 
 // What the arguments ask for.
-#[derive(Drop)]
+#[derive(Clone, Copy)]
 pub enum Command {
     Replay,
     Dump,

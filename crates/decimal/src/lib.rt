@@ -6,7 +6,7 @@ ghost use Rattle.decimal.specs.Decimal.{decimal_of};
 ghost use Rattle.decimal.specs.Digits.{digits_of};
 ghost use Rattle.decimal.specs.Put.{Put};
 
-#[derive(Drop)]
+#[derive(Clone, Copy)]
 pub enum Decimal {
     Number(u64),
     NoNumber,

@@ -12,14 +12,14 @@ ghost use Rattle.dump_read.specs.How.{Stored, line_in};
 use vcd::{Line, Reader};
 
 // The refusal, 0 for none, and how many entries.
-#[derive(Drop)]
+#[derive(Clone, Copy)]
 pub struct Entries {
     pub refused: u8,
     pub count: usize,
 }
 
 // Where the reader of a text ends, and how many entries there were.
-#[derive(Drop)]
+#[derive(Clone, Copy)]
 pub struct Scan {
     pub reader: Reader,
     pub count: usize,

@@ -4,7 +4,7 @@
 ghost use Rattle.std.specs.Prelude.{◌≡◌};
 ghost use Rattle.edition.specs.Edition.{known, edition_of};
 
-#[derive(Drop)]
+#[derive(Clone, Copy)]
 pub struct Edition {
     // a PWM counter above MAX runs on to 65,535
     pub runs: bool,

@@ -8,7 +8,7 @@ use encoder_count::{bit_pattern, kept_count, wrapping_down, wrapping_up};
 use encoder_pins::{places, unsees};
 use encoder_stat::{cleared_by, erred, marked_down, marked_up};
 
-#[derive(Drop)]
+#[derive(Clone, Copy)]
 pub struct Encoder {
     pub count: i32,
     pub cnfg: u32,

@@ -8,7 +8,7 @@ ghost use Rattle.i2c.specs.How.{on_write};
 
 use i2c_code::{Code, Phase, allowed, ended, failed, forbidden, state};
 
-#[derive(Drop)]
+#[derive(Clone, Copy)]
 pub struct I2c {
     pub addr: u8,
     pub cntl: u8,

@@ -4,14 +4,14 @@
 ghost use Rattle.std.specs.Prelude.{◌≡◌, cond, eqb};
 ghost use Rattle.i2c_code.specs.Code.{code_of, state_of, allowed, forbidden, failed, ended};
 
-#[derive(Drop)]
+#[derive(Clone, Copy)]
 pub enum Phase {
     Idle,
     TxIdle,
     RxIdle,
 }
 
-#[derive(Drop)]
+#[derive(Clone, Copy)]
 pub struct Code {
     pub receive: bool,
     pub byte: bool,

@@ -14,7 +14,7 @@ use walk::Walked;
 
 // The edition's number, both banks laid out flat, the bytes of an unfinished record (those past `held` are 0), how many records were applied,
 // modulo 2^64, and the number of the refusal, 0 if none.
-#[derive(Drop)]
+#[derive(Clone, Copy)]
 pub struct Stream {
     pub edition: u64,
     pub flat: Flat,
@@ -25,7 +25,7 @@ pub struct Stream {
 }
 
 // What a chunk came to: the stream afterwards, the number that the chunk is answered with, 0 if none, and how many readings it wrote.
-#[derive(Drop)]
+#[derive(Clone, Copy)]
 pub struct Chunked {
     pub stream: Stream,
     pub refused: u8,

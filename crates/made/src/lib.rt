@@ -7,7 +7,7 @@ ghost use Rattle.made.specs.How.{source_of, handed_of, handed_in};
 use trailer::Trailer;
 
 // The refusal, 0 for none; the index of the record that was refused, else 0; how many bytes were made.
-#[derive(Drop)]
+#[derive(Clone, Copy)]
 pub struct Made {
     pub refused: u8,
     pub index: usize,
@@ -15,7 +15,7 @@ pub struct Made {
 }
 
 // A log that replays, by its trailer, or its refusal and how many records were applied before it.
-#[derive(Drop)]
+#[derive(Clone, Copy)]
 pub enum Source {
     Replays {
         start: usize,

@@ -14,7 +14,7 @@ use records::Record;
 
 // A record by its channel's place in the array of both banks, and with its register and its value, in this order, where it has them;
 // or the number that it reads, or the one that refuses it. Each number is 64 bits wide, so that the variants lie alike and none has to be kept in memory.
-#[derive(Drop)]
+#[derive(Clone, Copy)]
 pub enum Placed {
     Refused(u64),
     Reads(u64),

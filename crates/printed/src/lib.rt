@@ -4,7 +4,7 @@
 ghost use Rattle.printed.specs.Printed.{Printing};
 
 // How many bytes, and whether they say a refusal.
-#[derive(Drop)]
+#[derive(Clone, Copy)]
 pub struct Printed {
     pub size: usize,
     pub refused: bool,

@@ -9,7 +9,7 @@ ghost use Rattle.pwm.specs.Facts.{Short};
 use bits::number;
 use std::num::{wrapping_add_u16, wrapping_sub_u16};
 
-#[derive(Drop)]
+#[derive(Clone, Copy)]
 pub struct Registers {
     pub max: u16,
     pub cmp: u16,
@@ -18,14 +18,14 @@ pub struct Registers {
 }
 
 // What ticks move: the counter, the clock's remainder, the output.
-#[derive(Drop)]
+#[derive(Clone, Copy)]
 pub struct Wave {
     pub counter: u16,
     pub remainder: u8,
     pub output: bool,
 }
 
-#[derive(Drop)]
+#[derive(Clone, Copy)]
 pub struct Pwm {
     pub registers: Registers,
     pub wave: Wave,

@@ -10,7 +10,7 @@ use rate_counts::{Bracket, finest, nearer, undivided};
 
 // The clock's rate in hertz, for rates from registers; its rate and the range of wanted rates, all in the unit of these; the factor of a
 // period. PWM and SPI differ in the range and the factor.
-#[derive(Drop)]
+#[derive(Clone, Copy)]
 pub struct Rule {
     pub hertz: u64,
     pub clock: u64,
@@ -19,14 +19,14 @@ pub struct Rule {
     pub base: u64,
 }
 
-#[derive(Drop)]
+#[derive(Clone, Copy)]
 pub enum Found {
     Pair { choice: u64, x: u64, period: u64 },
     Refused(u8),
 }
 
 // A rate as a fraction: the clock's rate over the period in ticks.
-#[derive(Drop)]
+#[derive(Clone, Copy)]
 pub enum Rated {
     Ratio { clock: u64, period: u64 },
     Unset(u8),

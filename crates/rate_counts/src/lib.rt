@@ -6,7 +6,7 @@ ghost use Rattle.rate_counts.specs.How.{Fit, Brackets, Around, undivided_of, coa
 
 // A divider choice, what it divides by, and its counts next to the wanted rate: `low` counts are at or under the clock's rate, one more is
 // past it.
-#[derive(Drop)]
+#[derive(Clone, Copy)]
 pub struct Bracket {
     pub choice: u64,
     pub divider: u64,
@@ -14,7 +14,7 @@ pub struct Bracket {
 }
 
 // A count, and how far it is from the clock's rate.
-#[derive(Drop)]
+#[derive(Clone, Copy)]
 pub struct Nearest {
     pub count: u64,
     pub miss: u64,

@@ -10,7 +10,7 @@ use decimal::Decimal;
 use rate::{Found, Rated};
 
 // What the first argument asks for, of PWM or SPI.
-#[derive(Drop)]
+#[derive(Clone, Copy)]
 pub enum Question {
     Pair(bool),
     Rate(bool),

@@ -6,7 +6,7 @@ ghost use Rattle.records.specs.Record.{fitting, select_range, pwm_cnfg, pwm_rang
 
 // What a record names: its access with its channel, its register and its value, in this order, where it has them. Registers have the
 // paper's numbers. Each number is 64 bits wide, so that the variants lie alike and none has to be kept in memory.
-#[derive(Drop)]
+#[derive(Clone, Copy)]
 pub enum Record {
     WriteSelect(u64),
     WriteEncoder(usize, u64),
@@ -22,7 +22,7 @@ pub enum Record {
 }
 
 // A record, or its refusal, 7 or 8.
-#[derive(Drop)]
+#[derive(Clone, Copy)]
 pub enum Decoded {
     Names(Record),
     Refused(u8),

@@ -5,7 +5,7 @@ ghost use Rattle.std.specs.Prelude.{◌≡◌, cond, ◌+◌, ◌<◌, ◌≤◌
 ghost use Rattle.shrink_rule.specs.How.{sort_by, sort_of, GoodSort, forgotten, drops_by, met_by};
 
 // What a record is to the rule: ticks of 0, pins, a write to CNFG, with the encoder's place of 20, a write to a bank's SELECT, or another.
-#[derive(Drop)]
+#[derive(Clone, Copy)]
 pub enum Sort {
     Idle,
     Pins { encoder: usize, value: u64 },

@@ -9,7 +9,7 @@ ghost use Rattle.sign_line.specs.How.{said_of, says_of, encoder_named, no_line, 
 
 // One encoder: whether its CNFG says EN 1, RST 0 and MODE 0; whether a stretch of it runs, with which last pins, and the place of its entry
 // among all. The stretch's sums stand where its entry will.
-#[derive(Drop)]
+#[derive(Clone, Copy)]
 pub struct Line {
     pub counts: bool,
     pub runs: bool,

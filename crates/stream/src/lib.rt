@@ -11,7 +11,7 @@ ghost use Rattle.stream.specs.Stream.{start_of, started_in, On};
 use edition::Edition;
 
 // The refusal, 0 for none, and how many readings were written.
-#[derive(Drop)]
+#[derive(Clone, Copy)]
 pub struct Told {
     pub refused: u8,
     pub readings: usize,

@@ -15,7 +15,7 @@ use live_state::Stream;
 use printed::Printed;
 
 // The stream after a chunk, and the size of what is printed of it.
-#[derive(Drop)]
+#[derive(Clone, Copy)]
 pub struct Shown {
     pub stream: Stream,
     pub size: usize,
@@ -78,7 +78,7 @@ fn show(s: Stream, bytes: &[u8]) -> Stream
 
 // The stream after what a read gave, and whether more is to be read: not after the input's end, nor after a refused record, whose answer no
 // byte can change.
-#[derive(Drop)]
+#[derive(Clone, Copy)]
 struct Next {
     stream: Stream,
     more: bool,

@@ -7,7 +7,7 @@ ghost use Rattle.transcript.specs.How.{Ready, Plainly};
 
 // The transcript is the replay's readings; it is once every encoder CNTR reading is negated; both; or its reading of an index is the
 // first that differs from the replay's. Or the log's refusal, or 17.
-#[derive(Drop)]
+#[derive(Clone, Copy)]
 pub enum Verdict {
     Same,
     Negated,

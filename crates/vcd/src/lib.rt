@@ -6,14 +6,14 @@ ghost use Rattle.std.specs.Prelude.{◌≡◌, ◌<◌};
 ghost use Rattle.vcd.specs.Lines.{code_of, var_of};
 
 // What a record says about time and pins: ticks pass, or the pins of an encoder have a value, bit 0 its A and bit 1 its B.
-#[derive(Drop)]
+#[derive(Clone, Copy)]
 pub enum Step {
     Wait(u64),
     Pins { encoder: usize, value: u64 },
 }
 
 // A line: one of the six fixed lines, a wire's declaration, its unknown value, a time in ns, a wire's new value, or none of these.
-#[derive(Drop)]
+#[derive(Clone, Copy)]
 pub enum Line {
     Fixed(u8),
     Var(usize),
@@ -25,7 +25,7 @@ pub enum Line {
 
 // Where a reader stands: its phase; the wire that has to come next, or where it is even the least that may; the time; and for each encoder
 // its pins and whether they changed at this time.
-#[derive(Drop)]
+#[derive(Clone, Copy)]
 pub struct Reader {
     pub phase: u8,
     pub awaited: usize,

@@ -3,6 +3,6 @@ use borrow.Author.Rules.{rules}
 use Rattle.bank.proofs.fresh.Statement.{statement}
 use Rattle.bank.proofs.fresh.Tie as tie
 
-pub fresh-spec : {M : Type 1} → statement M
+pub fresh_spec : {M : Type 1} → statement M
 unfolding fresh
-fresh-spec = tie.close (tie.spec (λ c κs. search rules) (λ c κs. search rules) (λ c κs. search rules) (λ c. cc))
+fresh_spec = tie.close (tie.spec (λ c κs. search rules) (λ c κs. search rules) (λ c κs. search rules) (λ c. cc))

@@ -8,20 +8,20 @@ use borrow.Author.Rules.{rules}
 use Rattle.banks.proofs.bank_in.Statement.{statement}
 use Rattle.banks.proofs.bank_in.Tie as tie
 
-abbrev invariant-loop : tie.invariant-loop
+abbrev invariant-loop : tie.invariant-loop-i
 invariant-loop k f b₀ i₀ b i = (i ≤ 10) × (b ≡ encoders_out b₀ f k i)
 
-abbrev decreases-loop : tie.decreases-loop
+abbrev decreases-loop : tie.decreases-loop-i
 decreases-loop k f b₀ i₀ b i = 10 - i
 
-abbrev invariant-loop2 : tie.invariant-loop2
+abbrev invariant-loop2 : tie.invariant-loop-i-2
 invariant-loop2 k f b₀ i₀ b i = (i ≤ 20) × (b ≡ pwms_out b₀ f k i)
 
-abbrev decreases-loop2 : tie.decreases-loop2
+abbrev decreases-loop2 : tie.decreases-loop-i-2
 decreases-loop2 k f b₀ i₀ b i = 20 - i
 
-pub bank-in-spec : {M : Type 1} → statement M
-bank-in-spec =
+pub bank_in_spec : {M : Type 1} → statement M
+bank_in_spec =
     tie.close
     (tie.spec
     invariant-loop

@@ -8,20 +8,20 @@ use borrow.Author.Rules.{rules}
 use Rattle.banks.proofs.laid.Statement.{statement}
 use Rattle.banks.proofs.laid.Tie as tie
 
-abbrev invariant-loop : tie.invariant-loop
+abbrev invariant-loop : tie.invariant-loop-i
 invariant-loop k b g₀ i₀ g i = (i ≤ 10) × (g ≡ encoders_in g₀ b k i)
 
-abbrev decreases-loop : tie.decreases-loop
+abbrev decreases-loop : tie.decreases-loop-i
 decreases-loop k b g₀ i₀ g i = 10 - i
 
-abbrev invariant-loop2 : tie.invariant-loop2
+abbrev invariant-loop2 : tie.invariant-loop-i-2
 invariant-loop2 k b g₀ i₀ g i = (i ≤ 20) × (g ≡ pwms_in g₀ b k i)
 
-abbrev decreases-loop2 : tie.decreases-loop2
+abbrev decreases-loop2 : tie.decreases-loop-i-2
 decreases-loop2 k b g₀ i₀ g i = 20 - i
 
-pub laid-spec : {M : Type 1} → statement M
-laid-spec =
+pub laid_spec : {M : Type 1} → statement M
+laid_spec =
     tie.close
     (tie.spec
     invariant-loop

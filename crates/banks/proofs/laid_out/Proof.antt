@@ -4,8 +4,8 @@ use borrow.Author.Rules.{rules}
 use Rattle.banks.proofs.laid_out.Statement.{statement}
 use Rattle.banks.proofs.laid_out.Tie as tie
 
-pub laid-out-spec : {M : Type 1} → statement M
-laid-out-spec =
+pub laid_out_spec : {M : Type 1} → statement M
+laid_out_spec =
     tie.close
     (tie.spec
     (λ c κs. search rules)

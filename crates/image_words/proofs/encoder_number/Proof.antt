@@ -3,9 +3,9 @@ use borrow.Author.Rules.{rules}
 use Rattle.image_words.proofs.encoder_number.Statement.{statement}
 use Rattle.image_words.proofs.encoder_number.Tie as tie
 
-pub encoder-number-spec : {M : Type 1} → statement M
+pub encoder_number_spec : {M : Type 1} → statement M
 unfolding low_number
-encoder-number-spec =
+encoder_number_spec =
     tie.close
     (tie.spec
     (λ c κs. search rules)

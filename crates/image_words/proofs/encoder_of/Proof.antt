@@ -5,8 +5,8 @@ use borrow.Author.Rules.{rules}
 use Rattle.image_words.proofs.encoder_of.Statement.{statement}
 use Rattle.image_words.proofs.encoder_of.Tie as tie
 
-pub encoder-of-spec : {M : Type 1} → statement M
-encoder-of-spec =
+pub encoder_of_spec : {M : Type 1} → statement M
+encoder_of_spec =
     tie.close
     (tie.spec
     (λ c. search rules)

@@ -3,9 +3,9 @@ use borrow.Author.Rules.{rules}
 use Rattle.image_words.proofs.i2c_number.Statement.{statement}
 use Rattle.image_words.proofs.i2c_number.Tie as tie
 
-pub i2c-number-spec : {M : Type 1} → statement M
+pub i2c_number_spec : {M : Type 1} → statement M
 unfolding i2c_number
-i2c-number-spec =
+i2c_number_spec =
     tie.close
     (tie.spec
     (λ c. search rules)

@@ -3,9 +3,9 @@ use borrow.Author.Rules.{rules}
 use Rattle.image_words.proofs.i2c_of.Statement.{statement}
 use Rattle.image_words.proofs.i2c_of.Tie as tie
 
-pub i2c-of-spec : {M : Type 1} → statement M
+pub i2c_of_spec : {M : Type 1} → statement M
 unfolding i2c_of
-i2c-of-spec =
+i2c_of_spec =
     tie.close
     (tie.spec
     (λ c. search rules)

@@ -3,8 +3,8 @@ use borrow.Author.Rules.{rules}
 use Rattle.image_words.proofs.pattern.Statement.{statement}
 use Rattle.image_words.proofs.pattern.Tie as tie
 
-pub pattern-spec : {M : Type 1} → statement M
-pattern-spec =
+pub pattern_spec : {M : Type 1} → statement M
+pattern_spec =
     tie.close
     (tie.spec
     (λ c κs. search rules)

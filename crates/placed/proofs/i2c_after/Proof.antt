@@ -5,9 +5,9 @@ use borrow.Author.Rules.{rules}
 use Rattle.placed.proofs.i2c_after.Statement.{statement}
 use Rattle.placed.proofs.i2c_after.Tie as tie
 
-pub i2c-after-spec : {M : Type 1} → statement M
+pub i2c_after_spec : {M : Type 1} → statement M
 unfolding i2c_after
-i2c-after-spec =
+i2c_after_spec =
     tie.close
     (tie.spec
     (λ c. search rules)

@@ -5,12 +5,12 @@ use borrow.Author.Rules.{rules}
 use Rattle.placed.proofs.place.Statement.{statement}
 use Rattle.placed.proofs.place.Tie as tie
 
-pub place-spec : {M : Type 1} → statement M
-place-spec =
+pub place_spec : {M : Type 1} → statement M
+place_spec =
     tie.close
     (tie.spec
     (λ c κs. search rules)
     (λ c. search rules)
-    (λ c. (refused_arm _ _ _ _ _ _ c.before.refusal.ensures (λ none. omega (arith, none, c.if1.true)), search inside_refused))
+    (λ c. (refused_arm _ _ _ _ _ _ c.before.refusal-number.ensures (λ none. omega (arith, none, c.if-number-ne0.true)), search inside_refused))
     (λ c κs. search rules)
     (λ c. (search passed_arm, search rules)))

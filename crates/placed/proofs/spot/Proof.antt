@@ -5,9 +5,9 @@ use borrow.Author.Rules.{rules}
 use Rattle.placed.proofs.spot.Statement.{statement}
 use Rattle.placed.proofs.spot.Tie as tie
 
-pub spot-spec : {M : Type 1} → statement M
+pub spot_spec : {M : Type 1} → statement M
 unfolding spot_of
-spot-spec =
+spot_spec =
     tie.close
     (tie.spec
     (λ c. search rules)

@@ -4,8 +4,8 @@ use Rattle.pwm.proofs.Rounds.{above_on, above_off}
 use Rattle.pwm.proofs.until_zero.Statement.{statement}
 use Rattle.pwm.proofs.until_zero.Tie as tie
 
-pub until-zero-spec : {M : Type 1} → statement M
-until-zero-spec =
+pub until_zero_spec : {M : Type 1} → statement M
+until_zero_spec =
     tie.close
     (tie.spec
     (λ c. search rules)

@@ -5,8 +5,8 @@ use Rattle.rate.proofs.Answers.{first_fits, step_fits, got_fits, miss_fits, allo
 use Rattle.rate.proofs.answer.Statement.{statement}
 use Rattle.rate.proofs.answer.Tie as tie
 
-pub answer-spec : {M : Type 1} → statement M
-answer-spec =
+pub answer_spec : {M : Type 1} → statement M
+answer_spec =
     tie.close
     (tie.spec
     (λ c. record { fits = search first_fits })

@@ -17,8 +17,8 @@ ratio : (u : Rule) (c x d : ℕ) → 1 ≤ c → c ≤ 7 → x ≤ 65_535 → d 
     rated_numbers (Ratio u.hertz (u.base * d * (x + 1))) ≡ rate_of u c x
 ratio u c x d h l s e = rw (e, le-ltb c 1 h, le-ltb 7 c l, le-ltb 65_535 x s)
 
-pub rate-of-spec : {M : Type 1} → statement M
-rate-of-spec =
+pub rate_of_spec : {M : Type 1} → statement M
+rate_of_spec =
     tie.close
     (tie.spec
     (λ c. search cases)

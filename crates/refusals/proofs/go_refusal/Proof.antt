@@ -3,8 +3,8 @@ use borrow.Author.Rules.{rules}
 use Rattle.refusals.proofs.go_refusal.Statement.{statement}
 use Rattle.refusals.proofs.go_refusal.Tie as tie
 
-pub go-refusal-spec : {M : Type 1} → statement M
-go-refusal-spec =
+pub go_refusal_spec : {M : Type 1} → statement M
+go_refusal_spec =
     tie.close
     (tie.spec
     (λ c κs. search rules)

@@ -3,8 +3,8 @@ use borrow.Author.Rules.{rules}
 use Rattle.refusals.proofs.i2c_refusal.Statement.{statement}
 use Rattle.refusals.proofs.i2c_refusal.Tie as tie
 
-pub i2c-refusal-spec : {M : Type 1} → statement M
-i2c-refusal-spec =
+pub i2c_refusal_spec : {M : Type 1} → statement M
+i2c_refusal_spec =
     tie.close
     (tie.spec
     (λ c. search i2c_addr)

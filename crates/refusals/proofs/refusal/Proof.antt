@@ -5,9 +5,9 @@ use borrow.Author.Rules.{rules}
 use Rattle.refusals.proofs.refusal.Statement.{statement}
 use Rattle.refusals.proofs.refusal.Tie as tie
 
-pub refusal-spec : {M : Type 1} → statement M
+pub refusal_spec : {M : Type 1} → statement M
 unfolding refusal_of
-refusal-spec =
+refusal_spec =
     tie.close
     (tie.spec
     (λ c. search rules)

@@ -4,8 +4,8 @@ use Rattle.sign_entry.proofs.Bytes.{bits_of}
 use Rattle.sign_entry.proofs.difference.Statement.{statement}
 use Rattle.sign_entry.proofs.difference.Tie as tie
 
-pub difference-spec : {M : Type 1} → statement M
-difference-spec =
+pub difference_spec : {M : Type 1} → statement M
+difference_spec =
     tie.close
     (tie.spec
     (λ c κs. search rules)

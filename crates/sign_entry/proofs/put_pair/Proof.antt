@@ -4,8 +4,8 @@ use Rattle.std.proofs.Common.{rules}
 use Rattle.sign_entry.proofs.put_pair.Statement.{statement}
 use Rattle.sign_entry.proofs.put_pair.Tie as tie
 
-pub put-pair-spec : {M : Type 1} → statement M
-put-pair-spec =
+pub put_pair_spec : {M : Type 1} → statement M
+put_pair_spec =
     tie.close
     (tie.spec
     (λ c κs. search rules)

@@ -4,8 +4,8 @@ use Rattle.std.proofs.Common.{rules}
 use Rattle.sign_entry.proofs.verdict.Statement.{statement}
 use Rattle.sign_entry.proofs.verdict.Tie as tie
 
-pub verdict-spec : {M : Type 1} → statement M
-verdict-spec =
+pub verdict_spec : {M : Type 1} → statement M
+verdict_spec =
     tie.close
     (tie.spec
     (λ c. search rules)

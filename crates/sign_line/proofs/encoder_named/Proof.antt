@@ -4,8 +4,8 @@ use borrow.Author.Rules.{rules}
 use Rattle.sign_line.proofs.encoder_named.Statement.{statement}
 use Rattle.sign_line.proofs.encoder_named.Tie as tie
 
-pub encoder-named-spec : {M : Type 1} → statement M
-encoder-named-spec =
+pub encoder_named_spec : {M : Type 1} → statement M
+encoder_named_spec =
     tie.close
     (tie.spec
     (λ c. search rules)

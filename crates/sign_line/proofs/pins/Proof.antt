@@ -4,8 +4,8 @@ use Rattle.sign_line.proofs.Laws.{pins_at}
 use Rattle.sign_line.proofs.pins.Statement.{statement}
 use Rattle.sign_line.proofs.pins.Tie as tie
 
-pub pins-spec : {M : Type 1} → statement M
-pins-spec =
+pub pins_spec : {M : Type 1} → statement M
+pins_spec =
     tie.close
     (tie.spec
     (λ c. search rules)

@@ -4,8 +4,8 @@ use borrow.Author.Rules.{rules}
 use Rattle.sign_line.proofs.says.Statement.{statement}
 use Rattle.sign_line.proofs.says.Tie as tie
 
-pub says-spec : {M : Type 1} → statement M
-says-spec =
+pub says_spec : {M : Type 1} → statement M
+says_spec =
     tie.close
     (tie.spec
     (λ c. search rules)

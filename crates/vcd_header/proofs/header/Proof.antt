@@ -6,7 +6,7 @@ use Rattle.vcd_header.proofs.header.Statement.{statement}
 use Rattle.vcd_header.proofs.header.Tie as tie
 
 pub header_spec : {M : Type 1} → statement M
-unfolding lines.text_of lines.printOf lines.fixedLines
+unfolding lines.text_of lines.print_of lines.fixed_lines
 header_spec =
     tie.close
     (tie.spec

@@ -6,7 +6,7 @@ use Rattle.vcd_read.proofs.head.Statement.{statement}
 use Rattle.vcd_read.proofs.head.Tie as tie
 
 pub head_spec : {M : Type 1} → statement M
-unfolding lines.fixedLines
+unfolding lines.fixed_lines
 head_spec =
     tie.close
     (tie.spec

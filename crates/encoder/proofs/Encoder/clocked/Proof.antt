@@ -4,8 +4,8 @@ use Rattle.encoder.proofs.Rules.{clocked_down, clocked_up, clocked_no}
 use Rattle.encoder.proofs.Encoder.clocked.Statement.{statement}
 use Rattle.encoder.proofs.Encoder.clocked.Tie as tie
 
-pub clocked-spec : {M : Type 1} → statement M
-clocked-spec =
+pub clocked_spec : {M : Type 1} → statement M
+clocked_spec =
     tie.close
     (tie.spec
     (λ c κs. search rules)

@@ -4,5 +4,5 @@ use Rattle.encoder.proofs.Rules.{step}
 use Rattle.encoder.proofs.Encoder.counted_down.Statement.{statement}
 use Rattle.encoder.proofs.Encoder.counted_down.Tie as tie
 
-pub counted-down-spec : {M : Type 1} → statement M
-counted-down-spec = tie.close (tie.spec (λ c κs. search rules) (λ c κs. search rules) (λ c κs. search rules) (λ c. search step))
+pub counted_down_spec : {M : Type 1} → statement M
+counted_down_spec = tie.close (tie.spec (λ c κs. search rules) (λ c κs. search rules) (λ c κs. search rules) (λ c. search step))

@@ -4,5 +4,5 @@ use Rattle.encoder.proofs.Rules.{step}
 use Rattle.encoder.proofs.Encoder.counted_up.Statement.{statement}
 use Rattle.encoder.proofs.Encoder.counted_up.Tie as tie
 
-pub counted-up-spec : {M : Type 1} → statement M
-counted-up-spec = tie.close (tie.spec (λ c κs. search rules) (λ c κs. search rules) (λ c κs. search rules) (λ c. search step))
+pub counted_up_spec : {M : Type 1} → statement M
+counted_up_spec = tie.close (tie.spec (λ c κs. search rules) (λ c κs. search rules) (λ c κs. search rules) (λ c. search step))

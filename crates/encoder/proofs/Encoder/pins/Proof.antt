@@ -4,8 +4,8 @@ use Rattle.encoder.proofs.Rules.{pins_seen, pins_first, pins_off, pins_kept, pin
 use Rattle.encoder.proofs.Encoder.pins.Statement.{statement}
 use Rattle.encoder.proofs.Encoder.pins.Tie as tie
 
-pub pins-spec : {M : Type 1} → statement M
-pins-spec =
+pub pins_spec : {M : Type 1} → statement M
+pins_spec =
     tie.close
     (tie.spec
     (λ c κs. search rules)

@@ -4,8 +4,8 @@ use Rattle.encoder.proofs.Rules.{equal, forward, failed, back}
 use Rattle.encoder.proofs.Encoder.quadrature.Statement.{statement}
 use Rattle.encoder.proofs.Encoder.quadrature.Tie as tie
 
-pub quadrature-spec : {M : Type 1} → statement M
-quadrature-spec =
+pub quadrature_spec : {M : Type 1} → statement M
+quadrature_spec =
     tie.close
     (tie.spec
     (λ c κs. search rules)

@@ -5,8 +5,8 @@ use Rattle.encoder.proofs.Rules.{read_cntr}
 use Rattle.encoder.proofs.Encoder.register.Statement.{statement}
 use Rattle.encoder.proofs.Encoder.register.Tie as tie
 
-pub register-spec : {M : Type 1} → statement M
-register-spec =
+pub register_spec : {M : Type 1} → statement M
+register_spec =
     tie.close
     (tie.spec
     (λ c. search rules)

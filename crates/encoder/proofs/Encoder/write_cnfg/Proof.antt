@@ -4,8 +4,8 @@ use Rattle.encoder.proofs.Rules.{configured}
 use Rattle.encoder.proofs.Encoder.write_cnfg.Statement.{statement}
 use Rattle.encoder.proofs.Encoder.write_cnfg.Tie as tie
 
-pub write-cnfg-spec : {M : Type 1} → statement M
-write-cnfg-spec =
+pub write_cnfg_spec : {M : Type 1} → statement M
+write_cnfg_spec =
     tie.close
     (tie.spec
     (λ c κs. search rules)

@@ -3,8 +3,8 @@ use Rattle.laws.proofs.Cases.{cases}
 use Rattle.i2c.proofs.I2c.register.Statement.{statement}
 use Rattle.i2c.proofs.I2c.register.Tie as tie
 
-pub register-spec : {M : Type 1} → statement M
-register-spec =
+pub register_spec : {M : Type 1} → statement M
+register_spec =
     tie.close
     (tie.spec
     (λ c. search rules)

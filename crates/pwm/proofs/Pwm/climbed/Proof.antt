@@ -3,8 +3,8 @@ use Rattle.pwm.proofs.Rounds.{cmp_met, cmp_unmet}
 use Rattle.pwm.proofs.Pwm.climbed.Statement.{statement}
 use Rattle.pwm.proofs.Pwm.climbed.Tie as tie
 
-pub climbed-spec : {M : Type 1} → statement M
-climbed-spec =
+pub climbed_spec : {M : Type 1} → statement M
+climbed_spec =
     tie.close
     (tie.spec
     (λ c κs. search rules)

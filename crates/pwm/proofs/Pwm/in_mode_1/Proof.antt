@@ -3,8 +3,8 @@ use Rattle.pwm.proofs.Rounds.{up_fits, up_fits32, up, over, round_fits}
 use Rattle.pwm.proofs.Pwm.in_mode_1.Statement.{statement}
 use Rattle.pwm.proofs.Pwm.in_mode_1.Tie as tie
 
-pub in-mode-1-spec : {M : Type 1} → statement M
-in-mode-1-spec =
+pub in_mode_1_spec : {M : Type 1} → statement M
+in_mode_1_spec =
     tie.close
     (tie.spec
     (λ c κs. search rules)

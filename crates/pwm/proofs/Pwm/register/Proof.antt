@@ -3,8 +3,8 @@ use Rattle.pwm.proofs.Writes.{read, level}
 use Rattle.pwm.proofs.Pwm.register.Statement.{statement}
 use Rattle.pwm.proofs.Pwm.register.Tie as tie
 
-pub register-spec : {M : Type 1} → statement M
-register-spec =
+pub register_spec : {M : Type 1} → statement M
+register_spec =
     tie.close
     (tie.spec
     (λ c. search rules)

@@ -3,8 +3,8 @@ use Rattle.pwm.proofs.Rounds.{low, is_mode_1}
 use Rattle.pwm.proofs.Pwm.steps.Statement.{statement}
 use Rattle.pwm.proofs.Pwm.steps.Tie as tie
 
-pub steps-spec : {M : Type 1} → statement M
-steps-spec =
+pub steps_spec : {M : Type 1} → statement M
+steps_spec =
     tie.close
     (tie.spec
     (λ c κs. search rules)

@@ -3,8 +3,8 @@ use Rattle.pwm.proofs.Waits.{off, steps_fit, rest_left, rest_fits, wait}
 use Rattle.pwm.proofs.Pwm.ticks.Statement.{statement}
 use Rattle.pwm.proofs.Pwm.ticks.Tie as tie
 
-pub ticks-spec : {M : Type 1} → statement M
-ticks-spec =
+pub ticks_spec : {M : Type 1} → statement M
+ticks_spec =
     tie.close
     (tie.spec
     (λ c κs. search rules)

@@ -3,5 +3,5 @@ use Rattle.pwm.proofs.Rounds.{agreed}
 use Rattle.pwm.proofs.Pwm.wrapped.Statement.{statement}
 use Rattle.pwm.proofs.Pwm.wrapped.Tie as tie
 
-pub wrapped-spec : {M : Type 1} → statement M
-wrapped-spec = tie.close (tie.spec (λ c κs. search rules) (λ c κs. search rules) (λ c. search agreed))
+pub wrapped_spec : {M : Type 1} → statement M
+wrapped_spec = tie.close (tie.spec (λ c κs. search rules) (λ c κs. search rules) (λ c. search agreed))
