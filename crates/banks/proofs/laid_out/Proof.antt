@@ -15,4 +15,4 @@ laid_out_spec =
     (λ c. search rules)
     (λ c κs. search rules)
     (λ c κs. search rules)
-    (λ c. let t = c.before.before.before.before.before.before.before in search (both_in, long_field, t.well-formed)))
+    (λ c. let t = c.before.before.before.before.before.before.before in search (both_in, long_field, t.well_formed)))

@@ -5,8 +5,8 @@ use Rattle.dump_read.proofs.Texts.{long_answer, bad_answer, small_answer, whole_
 use Rattle.dump_read.proofs.dump_read.Statement.{statement}
 use Rattle.dump_read.proofs.dump_read.Tie as tie
 
-pub dump-read-spec : {M : Type 1} → statement M
-dump-read-spec =
+pub dump_read_spec : {M : Type 1} → statement M
+dump_read_spec =
     tie.close
     (tie.spec
     (λ c. (search long_answer, omega arith))

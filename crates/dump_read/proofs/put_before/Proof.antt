@@ -4,8 +4,8 @@ use Rattle.dump_read.proofs.Stores.{quiet_fixed, quiet_var, quiet_unknown, at_ti
 use Rattle.dump_read.proofs.put_before.Statement.{statement}
 use Rattle.dump_read.proofs.put_before.Tie as tie
 
-pub put-before-spec : {M : Type 1} → statement M
-put-before-spec =
+pub put_before_spec : {M : Type 1} → statement M
+put_before_spec =
     tie.close
     (tie.spec
     (λ c. search rules)

@@ -4,8 +4,8 @@ use Rattle.dump_read.proofs.Stores.{entry_none, entry_some}
 use Rattle.dump_read.proofs.put_entry.Statement.{statement}
 use Rattle.dump_read.proofs.put_entry.Tie as tie
 
-pub put-entry-spec : {M : Type 1} → statement M
-put-entry-spec =
+pub put_entry_spec : {M : Type 1} → statement M
+put_entry_spec =
     tie.close
     (tie.spec
     (λ c. (search entry_none, search rules))

@@ -9,14 +9,14 @@ use Rattle.dump_read.proofs.Stores.{stored_long, standing_none, standing_next, s
 use Rattle.dump_read.proofs.put_standing.Statement.{statement}
 use Rattle.dump_read.proofs.put_standing.Tie as tie
 
-abbrev invariant-loop : tie.invariant-loop
+abbrev invariant-loop : tie.invariant-loop-e
 invariant-loop r out₀ count pins changed n₀ e₀ out n e = (e ≤ 20) × (n ≤ count + e) × Stored out₀ count (entries_at r.now 0 (take e pins) (take e changed)) out n
 
-abbrev decreases-loop : tie.decreases-loop
+abbrev decreases-loop : tie.decreases-loop-e
 decreases-loop r out₀ count pins changed n₀ e₀ out n e = 20 - e
 
-pub put-standing-spec : {M : Type 1} → statement M
-put-standing-spec =
+pub put_standing_spec : {M : Type 1} → statement M
+put_standing_spec =
     tie.close
     (tie.spec
     invariant-loop

@@ -7,14 +7,14 @@ use Rattle.dump_read.proofs.Texts.{Reading, reading, reads_on, reads_line, read_
 use Rattle.dump_read.proofs.read_text.Statement.{statement}
 use Rattle.dump_read.proofs.read_text.Tie as tie
 
-abbrev invariant-loop : tie.invariant-loop
+abbrev invariant-loop : tie.invariant-loop-i
 invariant-loop text out₀ s₀ start₀ i₀ out s start i = Reading text out₀ out s start i
 
-abbrev decreases-loop : tie.decreases-loop
+abbrev decreases-loop : tie.decreases-loop-i
 decreases-loop text out₀ s₀ start₀ i₀ out s start i = length text - i
 
-pub read-text-spec : {M : Type 1} → statement M
-read-text-spec =
+pub read_text_spec : {M : Type 1} → statement M
+read_text_spec =
     tie.close
     (tie.spec
     invariant-loop

@@ -4,8 +4,8 @@ use Rattle.dump_read.proofs.Stores.{line_turn_lem, line_stored}
 use Rattle.dump_read.proofs.take_line.Statement.{statement}
 use Rattle.dump_read.proofs.take_line.Tie as tie
 
-pub take-line-spec : {M : Type 1} → statement M
-take-line-spec =
+pub take_line_spec : {M : Type 1} → statement M
+take_line_spec =
     tie.close
     (tie.spec
     (λ c κs. search rules)

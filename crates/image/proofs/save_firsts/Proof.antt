@@ -21,4 +21,4 @@ save-firsts-spec =
     (λ c. search rules)
     (λ c.
     let start = c.before.before.before.before.before.before.before.before.before.before.before.before.before.before.before.before.before.before.before.before.before.before.before in
-    (firsts_put start.args.t1 (search rules) (search (long_field, start.well-formed)) _ _ _ _ _ _ _ _ c.before.before.before.before.before.before.before.before.before.before.before.before.before.before.before.before.before.put64.ensures c.before.before.before.before.before.before.before.before.before.before.before.before.put642.ensures c.before.before.before.before.before.before.before.before.i2c-number.ensures c.before.before.before.before.before.before.before.put643.ensures c.before.before.before.i2c-number2.ensures c.before.before.put644.ensures, (search rules, search (long_field, start.well-formed)))))
+    (firsts_put start.args.t1 (search rules) (search (long_field, start.well_formed)) _ _ _ _ _ _ _ _ c.before.before.before.before.before.before.before.before.before.before.before.before.before.before.before.before.before.put64.ensures c.before.before.before.before.before.before.before.before.before.before.before.before.put642.ensures c.before.before.before.before.before.before.before.before.i2c-number.ensures c.before.before.before.before.before.before.before.put643.ensures c.before.before.before.i2c-number2.ensures c.before.before.put644.ensures, (search rules, search (long_field, start.well_formed)))))

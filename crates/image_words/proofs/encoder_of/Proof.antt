@@ -14,4 +14,4 @@ encoder_of_spec =
     (λ c. search rules)
     (λ c. search rules)
     (λ c. search rules)
-    (λ c. encoder_made _ _ (to_z-of_z (record { sfits = c.count_of.type-inv }) ∙ c.count_of.ensures)))
+    (λ c. encoder_made _ _ (to_z-of_z (record { sfits = c.count_of.type_inv }) ∙ c.count_of.ensures)))

@@ -8,10 +8,7 @@ pub pair_text_spec : {M : Type 1} → statement M
 pair_text_spec =
     tie.close
     (tie.spec
-    (λ c. search rules)
     (λ c κs. search rules)
-    (λ c. search rules)
-    (λ c. search rules)
     (λ c κs. search rules)
     (λ c. search rules)
     (λ c. search put_then))

@@ -4,8 +4,8 @@ use Rattle.vcd_turn.proofs.Laws.{awaits_b, awaits_none}
 use Rattle.vcd_turn.proofs.awaits.Statement.{statement}
 use Rattle.vcd_turn.proofs.awaits.Tie as tie
 
-pub awaits-spec : {M : Type 1} → statement M
-awaits-spec =
+pub awaits_spec : {M : Type 1} → statement M
+awaits_spec =
     tie.close
     (tie.spec
     (λ c. search rules)

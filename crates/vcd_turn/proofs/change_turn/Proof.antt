@@ -4,8 +4,8 @@ use Rattle.vcd_turn.proofs.Laws.{change_yes, change_no}
 use Rattle.vcd_turn.proofs.change_turn.Statement.{statement}
 use Rattle.vcd_turn.proofs.change_turn.Tie as tie
 
-pub change-turn-spec : {M : Type 1} → statement M
-change-turn-spec =
+pub change_turn_spec : {M : Type 1} → statement M
+change_turn_spec =
     tie.close
     (tie.spec
     (λ c. search rules)

@@ -4,8 +4,8 @@ use Rattle.vcd_turn.proofs.Laws.{cut_short}
 use Rattle.vcd_turn.proofs.ended.Statement.{statement}
 use Rattle.vcd_turn.proofs.ended.Tie as tie
 
-pub ended-spec : {M : Type 1} → statement M
-ended-spec =
+pub ended_spec : {M : Type 1} → statement M
+ended_spec =
     tie.close
     (tie.spec
     (λ c. search rules)

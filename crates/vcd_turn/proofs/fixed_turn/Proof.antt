@@ -4,8 +4,8 @@ use Rattle.vcd_turn.proofs.Laws.{fixed_yes, fixed_no}
 use Rattle.vcd_turn.proofs.fixed_turn.Statement.{statement}
 use Rattle.vcd_turn.proofs.fixed_turn.Tie as tie
 
-pub fixed-turn-spec : {M : Type 1} → statement M
-fixed-turn-spec =
+pub fixed_turn_spec : {M : Type 1} → statement M
+fixed_turn_spec =
     tie.close
     (tie.spec
     (λ c. search rules)

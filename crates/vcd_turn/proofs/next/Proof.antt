@@ -4,8 +4,8 @@ use Rattle.vcd_turn.proofs.Laws.{next_fixed, next_var, next_unknown, next_time, 
 use Rattle.vcd_turn.proofs.next.Statement.{statement}
 use Rattle.vcd_turn.proofs.next.Tie as tie
 
-pub next-spec : {M : Type 1} → statement M
-next-spec =
+pub next_spec : {M : Type 1} → statement M
+next_spec =
     tie.close
     (tie.spec
     (λ c. search rules)

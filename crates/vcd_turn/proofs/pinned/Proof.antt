@@ -4,8 +4,8 @@ use Rattle.laws.proofs.Cases.{cases}
 use Rattle.vcd_turn.proofs.pinned.Statement.{statement}
 use Rattle.vcd_turn.proofs.pinned.Tie as tie
 
-pub pinned-spec : {M : Type 1} → statement M
-pinned-spec =
+pub pinned_spec : {M : Type 1} → statement M
+pinned_spec =
     tie.close
     (tie.spec
     (λ c. search rules)

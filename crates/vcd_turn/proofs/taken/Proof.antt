@@ -4,8 +4,8 @@ use Rattle.vcd_turn.proofs.Laws.{taken_then, taken_first, taken_other}
 use Rattle.vcd_turn.proofs.taken.Statement.{statement}
 use Rattle.vcd_turn.proofs.taken.Tie as tie
 
-pub taken-spec : {M : Type 1} → statement M
-taken-spec =
+pub taken_spec : {M : Type 1} → statement M
+taken_spec =
     tie.close
     (tie.spec
     (λ c. search taken_then)

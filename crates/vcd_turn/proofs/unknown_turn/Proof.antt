@@ -4,8 +4,8 @@ use Rattle.vcd_turn.proofs.Laws.{unknown_yes, unknown_no}
 use Rattle.vcd_turn.proofs.unknown_turn.Statement.{statement}
 use Rattle.vcd_turn.proofs.unknown_turn.Tie as tie
 
-pub unknown-turn-spec : {M : Type 1} → statement M
-unknown-turn-spec =
+pub unknown_turn_spec : {M : Type 1} → statement M
+unknown_turn_spec =
     tie.close
     (tie.spec
     (λ c. search rules)

@@ -4,8 +4,8 @@ use Rattle.vcd_turn.proofs.Laws.{var_yes, var_no}
 use Rattle.vcd_turn.proofs.var_turn.Statement.{statement}
 use Rattle.vcd_turn.proofs.var_turn.Tie as tie
 
-pub var-turn-spec : {M : Type 1} → statement M
-var-turn-spec =
+pub var_turn_spec : {M : Type 1} → statement M
+var_turn_spec =
     tie.close
     (tie.spec
     (λ c κs. search rules)
