@@ -1,5 +1,6 @@
 use mathlib.Core.Path.{◌∙◌}
 use mir.Facts.{to_z-of_z}
+use mir.Syntax.{w32}
 use Rattle.image_words.proofs.Numbers.{encoder_made}
 use borrow.Author.Rules.{rules}
 use Rattle.image_words.proofs.encoder_of.Statement.{statement}
@@ -14,4 +15,4 @@ encoder_of_spec =
     (λ c. search rules)
     (λ c. search rules)
     (λ c. search rules)
-    (λ c. encoder_made _ _ (to_z-of_z (record { sfits = c.count_of.type_inv }) ∙ c.count_of.ensures)))
+    (λ c. encoder_made _ _ (to_z-of_z {w = w32} (record { sfits = c.count_of.type_inv }) ∙ c.count_of.ensures)))
