@@ -3,9 +3,9 @@ use borrow.Author.Rules.{rules}
 use Rattle.image.proofs.head_number.Statement.{statement}
 use Rattle.image.proofs.head_number.Tie as tie
 
-pub head-number-spec : {M : Type 1} → statement M
+pub head_number_spec : {M : Type 1} → statement M
 unfolding head_number
-head-number-spec =
+head_number_spec =
     tie.close
     (tie.spec
     (λ c. search rules)

@@ -13,4 +13,4 @@ load_spec =
     (λ c κs. search all_room)
     (λ c κs. search second_room)
     (λ c. search rules)
-    (λ c. load_done c.before.before.before.before.before.args.s.now _ _ _ _ (λ i. omega (arith, c.before.before.before.before.shared-slice-known.given i)) c.before.before.before.before.before.requires c.before.before.before.le64.ensures c.before.before.load-flat.ensures c.before.load-carried.ensures c.le642.ensures))
+    (λ c. load_done c.before.before.before.before.before.args.s.now _ _ _ _ (λ i. omega (arith, c.before.before.before.before.shared_slice_known-1.given i)) c.before.before.before.before.before.requires c.before.before.before.le64-head.ensures c.before.before.load_flat.ensures c.before.load_carried.ensures c.le64.ensures))

@@ -5,14 +5,14 @@ use borrow.Author.Rules.{rules}
 use Rattle.image.proofs.load_carried.Statement.{statement}
 use Rattle.image.proofs.load_carried.Tie as tie
 
-abbrev invariant-loop : tie.invariant-loop
+abbrev invariant-loop : tie.invariant-loop-i
 invariant-loop s a₀ i₀ a i = (i ≤ 16) × (a ≡ bytes_to s a₀ i)
 
-abbrev decreases-loop : tie.decreases-loop
+abbrev decreases-loop : tie.decreases-loop-i
 decreases-loop s a₀ i₀ a i = 16 - i
 
-pub load-carried-spec : {M : Type 1} → statement M
-load-carried-spec =
+pub load_carried_spec : {M : Type 1} → statement M
+load_carried_spec =
     tie.close
     (tie.spec
     invariant-loop

@@ -3,8 +3,8 @@ use borrow.Author.Rules.{rules}
 use Rattle.image.proofs.put_pwm.Statement.{statement}
 use Rattle.image.proofs.put_pwm.Tie as tie
 
-pub put-pwm-spec : {M : Type 1} → statement M
-put-pwm-spec =
+pub put_pwm_spec : {M : Type 1} → statement M
+put_pwm_spec =
     tie.close
     (tie.spec
     (λ c κs. search rules)

@@ -5,14 +5,14 @@ use borrow.Author.Rules.{rules}
 use Rattle.image.proofs.save_carried.Statement.{statement}
 use Rattle.image.proofs.save_carried.Tie as tie
 
-abbrev invariant-loop : tie.invariant-loop
+abbrev invariant-loop : tie.invariant-loop-i
 invariant-loop out₀ a i₀ out i = (i ≤ 16) × (out ≡ carried_in out₀ a i)
 
-abbrev decreases-loop : tie.decreases-loop
+abbrev decreases-loop : tie.decreases-loop-i
 decreases-loop out₀ a i₀ out i = 16 - i
 
-pub save-carried-spec : {M : Type 1} → statement M
-save-carried-spec =
+pub save_carried_spec : {M : Type 1} → statement M
+save_carried_spec =
     tie.close
     (tie.spec
     invariant-loop

@@ -5,14 +5,14 @@ use borrow.Author.Rules.{rules}
 use Rattle.image.proofs.save_encoders.Statement.{statement}
 use Rattle.image.proofs.save_encoders.Tie as tie
 
-abbrev invariant-loop : tie.invariant-loop
+abbrev invariant-loop : tie.invariant-loop-i
 invariant-loop out₀ l i₀ out i = (i ≤ 20) × (out ≡ encoders_in out₀ l i)
 
-abbrev decreases-loop : tie.decreases-loop
+abbrev decreases-loop : tie.decreases-loop-i
 decreases-loop out₀ l i₀ out i = 20 - i
 
-pub save-encoders-spec : {M : Type 1} → statement M
-save-encoders-spec =
+pub save_encoders_spec : {M : Type 1} → statement M
+save_encoders_spec =
     tie.close
     (tie.spec
     invariant-loop

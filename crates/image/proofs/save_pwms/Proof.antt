@@ -5,14 +5,14 @@ use borrow.Author.Rules.{rules}
 use Rattle.image.proofs.save_pwms.Statement.{statement}
 use Rattle.image.proofs.save_pwms.Tie as tie
 
-abbrev invariant-loop : tie.invariant-loop
+abbrev invariant-loop : tie.invariant-loop-i
 invariant-loop out₀ l i₀ out i = (i ≤ 40) × (out ≡ pwms_in out₀ l i)
 
-abbrev decreases-loop : tie.decreases-loop
+abbrev decreases-loop : tie.decreases-loop-i
 decreases-loop out₀ l i₀ out i = 40 - i
 
-pub save-pwms-spec : {M : Type 1} → statement M
-save-pwms-spec =
+pub save_pwms_spec : {M : Type 1} → statement M
+save_pwms_spec =
     tie.close
     (tie.spec
     invariant-loop

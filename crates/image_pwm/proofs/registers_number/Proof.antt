@@ -3,9 +3,9 @@ use borrow.Author.Rules.{rules}
 use Rattle.image_pwm.proofs.registers_number.Statement.{statement}
 use Rattle.image_pwm.proofs.registers_number.Tie as tie
 
-pub registers-number-spec : {M : Type 1} → statement M
+pub registers_number_spec : {M : Type 1} → statement M
 unfolding registers_number
-registers-number-spec =
+registers_number_spec =
     tie.close
     (tie.spec
     (λ c. search rules)

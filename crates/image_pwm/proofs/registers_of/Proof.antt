@@ -3,9 +3,9 @@ use borrow.Author.Rules.{rules}
 use Rattle.image_pwm.proofs.registers_of.Statement.{statement}
 use Rattle.image_pwm.proofs.registers_of.Tie as tie
 
-pub registers-of-spec : {M : Type 1} → statement M
+pub registers_of_spec : {M : Type 1} → statement M
 unfolding registers_of
-registers-of-spec =
+registers_of_spec =
     tie.close
     (tie.spec
     (λ c. search rules)

@@ -3,9 +3,9 @@ use borrow.Author.Rules.{rules}
 use Rattle.image_pwm.proofs.wave_number.Statement.{statement}
 use Rattle.image_pwm.proofs.wave_number.Tie as tie
 
-pub wave-number-spec : {M : Type 1} → statement M
+pub wave_number_spec : {M : Type 1} → statement M
 unfolding wave_number
-wave-number-spec =
+wave_number_spec =
     tie.close
     (tie.spec
     (λ c. search rules)

@@ -3,9 +3,9 @@ use borrow.Author.Rules.{rules}
 use Rattle.image_pwm.proofs.wave_of.Statement.{statement}
 use Rattle.image_pwm.proofs.wave_of.Tie as tie
 
-pub wave-of-spec : {M : Type 1} → statement M
+pub wave_of_spec : {M : Type 1} → statement M
 unfolding wave_of
-wave-of-spec =
+wave_of_spec =
     tie.close
     (tie.spec
     (λ c. search rules)

@@ -7,14 +7,14 @@ use borrow.Author.Rules.{rules}
 use Rattle.image_state.proofs.are_carried.Statement.{statement}
 use Rattle.image_state.proofs.are_carried.Tie as tie
 
-abbrev invariant-loop : tie.invariant-loop
+abbrev invariant-loop : tie.invariant-loop-i
 invariant-loop s end all₀ i₀ all i = (i ≤ 16) × (all ≡ ok_many 1 (is_carried end) i s 16)
 
-abbrev decreases-loop : tie.decreases-loop
+abbrev decreases-loop : tie.decreases-loop-i
 decreases-loop s end all₀ i₀ all i = 16 - i
 
-pub are-carried-spec : {M : Type 1} → statement M
-are-carried-spec =
+pub are_carried_spec : {M : Type 1} → statement M
+are_carried_spec =
     tie.close
     (tie.spec
     invariant-loop

@@ -7,14 +7,14 @@ use borrow.Author.Rules.{rules}
 use Rattle.image_state.proofs.are_registers.Statement.{statement}
 use Rattle.image_state.proofs.are_registers.Tie as tie
 
-abbrev invariant-loop : tie.invariant-loop
+abbrev invariant-loop : tie.invariant-loop-i
 invariant-loop s all₀ i₀ all i = (i ≤ 40) × (all ≡ ok_many 16 (ok_word is_registers) i s 224)
 
-abbrev decreases-loop : tie.decreases-loop
+abbrev decreases-loop : tie.decreases-loop-i
 decreases-loop s all₀ i₀ all i = 40 - i
 
-pub are-registers-spec : {M : Type 1} → statement M
-are-registers-spec =
+pub are_registers_spec : {M : Type 1} → statement M
+are_registers_spec =
     tie.close
     (tie.spec
     invariant-loop
@@ -26,5 +26,5 @@ are-registers-spec =
     (λ c κs. search rules)
     (λ c. search rules)
     (λ c. search rules)
-    (λ c. (search rules, registers_more _ _ _ _ _ c.before.before.before.loop.invariant.1 c.before.le64.ensures c.is-registers.ensures))
+    (λ c. (search rules, registers_more _ _ _ _ _ c.before.before.before.loop-i.invariant.1 c.before.le64.ensures c.is_registers-all.ensures))
     (λ c. search test_all))

@@ -7,14 +7,14 @@ use borrow.Author.Rules.{rules}
 use Rattle.image_state.proofs.are_short.Statement.{statement}
 use Rattle.image_state.proofs.are_short.Tie as tie
 
-abbrev invariant-loop : tie.invariant-loop
+abbrev invariant-loop : tie.invariant-loop-i
 invariant-loop s all₀ i₀ all i = (i ≤ 40) × (all ≡ ok_many 16 ok_quick i s 224)
 
-abbrev decreases-loop : tie.decreases-loop
+abbrev decreases-loop : tie.decreases-loop-i
 decreases-loop s all₀ i₀ all i = 40 - i
 
-pub are-short-spec : {M : Type 1} → statement M
-are-short-spec =
+pub are_short_spec : {M : Type 1} → statement M
+are_short_spec =
     tie.close
     (tie.spec
     invariant-loop
@@ -29,5 +29,5 @@ are-short-spec =
     (λ c κs. search rules)
     (λ c. search rules)
     (λ c. search rules)
-    (λ c. (search rules, quick_more _ _ _ _ _ _ c.before.before.before.before.loop.invariant.1 c.before.before.le64.ensures c.before.le642.ensures c.is-short.ensures))
+    (λ c. (search rules, quick_more _ _ _ _ _ _ c.before.before.before.before.loop-i.invariant.1 c.before.before.le64.ensures c.before.le64-in-loop-i.ensures c.is_short-all.ensures))
     (λ c. search test_all))

@@ -7,14 +7,14 @@ use borrow.Author.Rules.{rules}
 use Rattle.image_state.proofs.are_waves.Statement.{statement}
 use Rattle.image_state.proofs.are_waves.Tie as tie
 
-abbrev invariant-loop : tie.invariant-loop
+abbrev invariant-loop : tie.invariant-loop-i
 invariant-loop s all₀ i₀ all i = (i ≤ 40) × (all ≡ ok_many 16 ok_wave i s 224)
 
-abbrev decreases-loop : tie.decreases-loop
+abbrev decreases-loop : tie.decreases-loop-i
 decreases-loop s all₀ i₀ all i = 40 - i
 
-pub are-waves-spec : {M : Type 1} → statement M
-are-waves-spec =
+pub are_waves_spec : {M : Type 1} → statement M
+are_waves_spec =
     tie.close
     (tie.spec
     invariant-loop

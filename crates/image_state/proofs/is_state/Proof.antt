@@ -3,8 +3,8 @@ use borrow.Author.Rules.{rules}
 use Rattle.image_state.proofs.is_state.Statement.{statement}
 use Rattle.image_state.proofs.is_state.Tie as tie
 
-pub is-state-spec : {M : Type 1} → statement M
-is-state-spec =
+pub is_state_spec : {M : Type 1} → statement M
+is_state_spec =
     tie.close
     (tie.spec
     (λ c. search state_not)
@@ -22,4 +22,4 @@ is-state-spec =
     (λ c κs. search rules)
     (λ c κs. search rules)
     (λ c κs. search rules)
-    (λ c. state_tested _ _ _ _ _ _ _ _ _ _ _ _ _ _ (search rules) c.before.before.before.before.before.before.before.before.before.before.before.before.le64.ensures c.before.before.before.before.before.before.before.before.before.before.before.is-head.ensures c.before.before.before.before.before.before.before.before.before.before.are-carried.ensures c.before.before.before.before.before.before.before.before.before.le642.ensures c.before.before.before.before.before.before.before.before.le643.ensures c.before.before.before.before.before.before.before.le644.ensures c.before.before.before.before.before.before.is-i2c.ensures c.before.before.before.before.before.le645.ensures c.before.before.before.before.is-i2c2.ensures c.before.before.before.are-encoders.ensures c.before.before.are-registers.ensures c.before.are-waves.ensures c.are-short.ensures))
+    (λ c. state_tested _ _ _ _ _ _ _ _ _ _ _ _ _ _ (search rules) c.before.before.before.before.before.before.before.before.before.before.before.before.le64-head.ensures c.before.before.before.before.before.before.before.before.before.before.before.is_head.ensures c.before.before.before.before.before.before.before.before.before.before.are_carried.ensures c.before.before.before.before.before.before.before.before.before.le64.ensures c.before.before.before.before.before.before.before.before.le64-2.ensures c.before.before.before.before.before.before.before.le64-3.ensures c.before.before.before.before.before.before.is_i2c.ensures c.before.before.before.before.before.le64-4.ensures c.before.before.before.before.is_i2c-2.ensures c.before.before.before.are_encoders.ensures c.before.before.are_registers.ensures c.before.are_waves.ensures c.are_short.ensures))

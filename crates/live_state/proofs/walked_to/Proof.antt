@@ -3,8 +3,8 @@ use Rattle.live_state.proofs.Steps.{walked_told}
 use Rattle.live_state.proofs.walked_to.Statement.{statement}
 use Rattle.live_state.proofs.walked_to.Tie as tie
 
-pub walked-to-spec : {M : Type 1} → statement M
-walked-to-spec =
+pub walked_to_spec : {M : Type 1} → statement M
+walked_to_spec =
     tie.close
     (tie.spec
     (λ c κs. search rules)

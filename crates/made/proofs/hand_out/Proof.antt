@@ -4,8 +4,8 @@ use Rattle.made.proofs.Sources.{fits_answer, fits_output, short_answer, short_ou
 use Rattle.made.proofs.hand_out.Statement.{statement}
 use Rattle.made.proofs.hand_out.Tie as tie
 
-pub hand-out-spec : {M : Type 1} → statement M
-hand-out-spec =
+pub hand_out_spec : {M : Type 1} → statement M
+hand_out_spec =
     tie.close
     (tie.spec
     (λ c. (search short_answer, search short_output))

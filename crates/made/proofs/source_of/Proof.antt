@@ -6,8 +6,8 @@ use Rattle.made.proofs.Sources.{refuses, no_trailer, found}
 use Rattle.made.proofs.source_of.Statement.{statement}
 use Rattle.made.proofs.source_of.Tie as tie
 
-pub source-of-spec : {M : Type 1} → statement M
-source-of-spec =
+pub source_of_spec : {M : Type 1} → statement M
+source_of_spec =
     tie.close
     (tie.spec
     (λ c. search rules)

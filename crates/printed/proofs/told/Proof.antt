@@ -4,8 +4,8 @@ use Rattle.printed.proofs.Ways.{made, of_log, of_record}
 use Rattle.printed.proofs.told.Statement.{statement}
 use Rattle.printed.proofs.told.Tie as tie
 
-pub told-spec : {M : Type 1} → statement M
-told-spec =
+pub told_spec : {M : Type 1} → statement M
+told_spec =
     tie.close
     (tie.spec
     (λ c. search made)

@@ -4,8 +4,8 @@ use Rattle.rate_print.proofs.Says.{pair_counts, rate_counts, says_pair, says_rat
 use Rattle.rate_print.proofs.say.Statement.{statement}
 use Rattle.rate_print.proofs.say.Tie as tie
 
-pub say-spec : {M : Type 1} → statement M
-say-spec =
+pub say_spec : {M : Type 1} → statement M
+say_spec =
     tie.close
     (tie.spec
     (λ c. search rules)

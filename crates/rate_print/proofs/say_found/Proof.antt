@@ -5,8 +5,8 @@ use Rattle.rate_print.specs.Said.{found_text}
 use Rattle.rate_print.proofs.say_found.Statement.{statement}
 use Rattle.rate_print.proofs.say_found.Tie as tie
 
-pub say-found-spec : {M : Type 1} → statement M
-say-found-spec =
+pub say_found_spec : {M : Type 1} → statement M
+say_found_spec =
     tie.close
     (tie.spec
     (λ c. search rules)

@@ -5,8 +5,8 @@ use Rattle.rate_print.specs.Said.{rated_text}
 use Rattle.rate_print.proofs.say_rated.Statement.{statement}
 use Rattle.rate_print.proofs.say_rated.Tie as tie
 
-pub say-rated-spec : {M : Type 1} → statement M
-say-rated-spec =
+pub say_rated_spec : {M : Type 1} → statement M
+say_rated_spec =
     tie.close
     (tie.spec
     (λ c. search rules)

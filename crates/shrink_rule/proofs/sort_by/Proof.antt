@@ -4,9 +4,9 @@ use Rattle.shrink_rule.specs.How.{sort_by}
 use Rattle.shrink_rule.proofs.sort_by.Statement.{statement}
 use Rattle.shrink_rule.proofs.sort_by.Tie as tie
 
-pub sort-by-spec : {M : Type 1} → statement M
+pub sort_by_spec : {M : Type 1} → statement M
 unfolding sort_by
-sort-by-spec =
+sort_by_spec =
     tie.close
     (tie.spec
     (λ c. search cases)

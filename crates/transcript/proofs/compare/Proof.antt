@@ -4,14 +4,14 @@ use Rattle.transcript.proofs.Going.{Going, begins, in_log, at_in_log, place_fits
 use Rattle.transcript.proofs.compare.Statement.{statement}
 use Rattle.transcript.proofs.compare.Tie as tie
 
-abbrev invariant-loop : tie.invariant-loop
+abbrev invariant-loop : tie.invariant-loop-j
 invariant-loop log start out transcript n still₀ at₀ j₀ still at j = Going log start transcript still at j
 
-abbrev decreases-loop : tie.decreases-loop
+abbrev decreases-loop : tie.decreases-loop-j
 decreases-loop log start out transcript n still₀ at₀ j₀ still at j = length log - at
 
-pub compare-spec : {M : Type 1} → statement M
-compare-spec =
+pub compare_spec : {M : Type 1} → statement M
+compare_spec =
     tie.close
     (tie.spec
     invariant-loop
@@ -39,7 +39,7 @@ compare-spec =
     let q = c.before.before.before.before in
     let e = q.before.before.before.before in
     let l = e.before.before.before in
-    cntr_on _ _ _ _ l.before.before.before.before.requires _ _ _ l.loop.invariant e.before.before.if1.false e.if3.false _ _ _ c.before.before.before.le64.ensures c.before.before.le642.ensures q.before.is-cntr.ensures _ q.if4.true c.before.negate.ensures c.if5.false l.before.shared-slice-known3.given)
+    cntr_on _ _ _ _ l.before.before.before.before.requires _ _ _ l.loop-j.invariant e.before.before.if-j-n.false e.if-log-at-ne2.false _ _ _ c.before.before.before.le64-t.ensures c.before.before.le64-v.ensures q.before.is_cntr.ensures _ q.if-is_cntr.true c.before.negate-w.ensures c.if-t-w.false l.before.shared_slice_known-3-1.given)
     (λ c. omega arith)
     (λ c κs. search room_transcript)
     (λ c. omega arith)
@@ -52,7 +52,7 @@ compare-spec =
     let q = c.before.before.before in
     let e = q.before.before.before.before in
     let l = e.before.before.before in
-    other_on _ _ _ _ l.before.before.before.before.requires _ _ _ l.loop.invariant e.before.before.if1.false e.if3.false _ _ _ c.before.before.le643.ensures c.before.le644.ensures q.before.is-cntr.ensures q.if4.false c.if6.false l.before.shared-slice-known3.given)
+    other_on _ _ _ _ l.before.before.before.before.requires _ _ _ l.loop-j.invariant e.before.before.if-j-n.false e.if-log-at-ne2.false _ _ _ c.before.before.le64-t-in-loop-j.ensures c.before.le64-v-in-loop-j.ensures q.before.is_cntr.ensures q.if-is_cntr.false c.if-t-v.false l.before.shared_slice_known-3-1.given)
     (λ c. search ends_both)
     (λ c. search ends_negated)
     (λ c. search cntr_breaks)

@@ -3,5 +3,5 @@ use Rattle.std.proofs.Common.{rules}
 use Rattle.transcript.proofs.is_cntr.Statement.{statement}
 use Rattle.transcript.proofs.is_cntr.Tie as tie
 
-pub is-cntr-spec : {M : Type 1} → statement M
-is-cntr-spec = tie.close (tie.spec (λ c. search rules))
+pub is_cntr_spec : {M : Type 1} → statement M
+is_cntr_spec = tie.close (tie.spec (λ c. search rules))

@@ -4,5 +4,5 @@ use Rattle.write_print.proofs.Prints.{log_printed}
 use Rattle.write_print.proofs.write_edition.Statement.{statement}
 use Rattle.write_print.proofs.write_edition.Tie as tie
 
-pub write-edition-spec : {M : Type 1} → statement M
-write-edition-spec = tie.close (tie.spec (λ c κs. search rules) (λ c κs. search rules) (λ c. search rules) (λ c. search log_printed))
+pub write_edition_spec : {M : Type 1} → statement M
+write_edition_spec = tie.close (tie.spec (λ c κs. search rules) (λ c κs. search rules) (λ c. search rules) (λ c. search log_printed))

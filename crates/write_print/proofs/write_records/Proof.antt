@@ -4,8 +4,8 @@ use Rattle.write_print.proofs.Prints.{some_counts}
 use Rattle.write_print.proofs.write_records.Statement.{statement}
 use Rattle.write_print.proofs.write_records.Tie as tie
 
-pub write-records-spec : {M : Type 1} → statement M
-write-records-spec =
+pub write_records_spec : {M : Type 1} → statement M
+write_records_spec =
     tie.close
     (tie.spec
     (λ c κs. search rules)

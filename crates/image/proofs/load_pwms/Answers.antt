@@ -1,0 +1,14 @@
+use mathlib.Core.Path.{◌≡◌}
+use Prim.Native.Nat.{◌≤◌, ◌-◌}
+use Rattle.image.proofs.Steps.{pwms_to, pwms_none, pwms_next, pwms_all}
+use borrow.Author.Rules.{rules}
+use Rattle.image.proofs.load_pwms.Goals as goal
+
+pub loop-i-init : goal.loop-i-init
+loop-i-init c = (search rules, search pwms_none)
+
+pub loop-i-preserved : goal.loop-i-preserved
+loop-i-preserved c = (search rules, search pwms_next)
+
+pub returns : goal.returns
+returns c = search pwms_all
