@@ -116,7 +116,12 @@ pub fn rate(rt: &impl Env, text: &mut [u8]) -> usize
 {
     let mut word = outside::buffer();
     let n = outside::arg(rt, 1, &mut word);
-    let said = rate_print::say(text, rate_print::asked(&word[..n]), number(rt, 2), number(rt, 3));
+    let said = rate_print::say(
+        text,
+        rate_print::asked(&word[..n]),
+        number(rt, 2),
+        number(rt, 3),
+    );
     if said == 0 {
         return usage(text);
     }
