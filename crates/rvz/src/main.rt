@@ -32,7 +32,11 @@ fn plain(size: usize) -> Printed
 }
 
 // Of a stream the readings are written, and the text is as it was where that fails.
-fn print(rt: &(impl Env + Files + Input + Print), text: &mut [u8], command: Command) -> io::Result<Printed>
+fn print(
+    rt: &(impl Env + Files + Input + Print),
+    text: &mut [u8],
+    command: Command,
+) -> io::Result<Printed>
     requires { 298920 ≤ length text.old }
     ensures prefix_len { IfOk result (λ r. IsPrefixLen r.size text.new) }
     ensures unchanged { OnErr result (text.new ≡ text.old) }
