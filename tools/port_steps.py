@@ -13,7 +13,7 @@ import subprocess
 import sys
 import tempfile
 
-DASHED = re.compile(r"(?<=\.)([A-Za-z][^\s(){}.;,@\"«»\[\]\\]*)")
+DASHED = re.compile(r"(?<=\.)(?<!\.args\.)(?<!\.new\.)(?<!\.auto\.)(?<!\.ranges\.)(?<!\.type_inv\.)([A-Za-z][^\s(){}.;,@\"«»\[\]\\]*)")
 
 
 def names_of(crate):

@@ -8,15 +8,15 @@ use Rattle.judge.proofs.Whole.{refuses, ready, few, no_trailer}
 use Rattle.judge.proofs.judge.Goals as goal
 
 pub overflow_mul-fits : goal.overflow_mul-fits
-overflow_mul-fits c = let r = c.replay-stop.ensures in record { fits = omega (arith, few _ _ _ _ _ r.0 r.1) }
+overflow_mul-fits c = let r = c.replay-stop.ensures in record { fits = omega (arith, few _ _ _ _ _ r.value r.out_after) }
 
 pub returns-then-number-ne0 : goal.returns-then-number-ne0
 returns-then-number-ne0 c = search (refuses, rules)
 
 pub compare-requires : goal.compare-requires
-compare-requires c = let f = c.before.before.before.before in
-    let r = f.before.before.before.before.before.before.replay.ensures in
-    ready _ _ (length-replicate {A = ℕ} 16384 0) _ r.0 _ _ _ _ refl f.before.before.before.of_length.ensures f.before.before.first_of.ensures _ _ r.1 f.before.if1.false _ _ _ _ f.find.ensures c.in-Found.is
+compare-requires c =
+    let r = c.replay-stop.ensures in
+    ready _ _ (length-replicate {A = ℕ} 16384 0) _ r.value _ _ _ _ refl c.of_length.ensures c.first_of-number.ensures _ _ r.out_after c.if-number-ne0.false _ _ _ _ c.find.ensures c.in-Found.is
 
 pub returns-in-Refused : goal.returns-in-Refused
 returns-in-Refused c = search no_trailer

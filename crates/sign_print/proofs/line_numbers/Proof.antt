@@ -4,8 +4,8 @@ use Rattle.std.proofs.Common.{rules}
 use Rattle.sign_print.proofs.line_numbers.Statement.{statement}
 use Rattle.sign_print.proofs.line_numbers.Tie as tie
 
-pub line-numbers-spec : {M : Type 1} → statement M
-line-numbers-spec =
+pub line_numbers_spec : {M : Type 1} → statement M
+line_numbers_spec =
     tie.close
     (tie.spec
     (λ c κs. search rules)

@@ -4,8 +4,8 @@ use Rattle.sign_print.proofs.Words.{entry_spelt}
 use Rattle.sign_print.proofs.put_entry.Statement.{statement}
 use Rattle.sign_print.proofs.put_entry.Tie as tie
 
-pub put-entry-spec : {M : Type 1} → statement M
-put-entry-spec =
+pub put_entry_spec : {M : Type 1} → statement M
+put_entry_spec =
     tie.close
     (tie.spec
     (λ c κs. search rules)

@@ -4,8 +4,8 @@ use Rattle.std.proofs.Common.{rules}
 use Rattle.sign_print.proofs.put_stretch.Statement.{statement}
 use Rattle.sign_print.proofs.put_stretch.Tie as tie
 
-pub put-stretch-spec : {M : Type 1} → statement M
-put-stretch-spec =
+pub put_stretch_spec : {M : Type 1} → statement M
+put_stretch_spec =
     tie.close
     (tie.spec
     (λ c κs. search rules)

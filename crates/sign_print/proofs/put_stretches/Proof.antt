@@ -4,14 +4,14 @@ use Rattle.sign_print.proofs.Saying.{Saying, begins, same_long, here, next, all_
 use Rattle.sign_print.proofs.put_stretches.Statement.{statement}
 use Rattle.sign_print.proofs.put_stretches.Tie as tie
 
-abbrev invariant-loop : tie.invariant-loop
+abbrev invariant-loop : tie.invariant-loop-i
 invariant-loop text₀ log entries n end₀ i₀ text end i = Saying log entries text₀ n text end i
 
-abbrev decreases-loop : tie.decreases-loop
+abbrev decreases-loop : tie.decreases-loop-i
 decreases-loop text₀ log entries n end₀ i₀ text end i = n - i
 
-pub put-stretches-spec : {M : Type 1} → statement M
-put-stretches-spec =
+pub put_stretches_spec : {M : Type 1} → statement M
+put_stretches_spec =
     tie.close
     (tie.spec
     invariant-loop

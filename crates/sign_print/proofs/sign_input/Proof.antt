@@ -4,8 +4,8 @@ use Rattle.sign_print.proofs.Saying.{put_counts}
 use Rattle.sign_print.proofs.sign_input.Statement.{statement}
 use Rattle.sign_print.proofs.sign_input.Tie as tie
 
-pub sign-input-spec : {M : Type 1} → statement M
-sign-input-spec =
+pub sign_input_spec : {M : Type 1} → statement M
+sign_input_spec =
     tie.close
     (tie.spec
     (λ c. search rules)

@@ -4,8 +4,8 @@ use Rattle.std.proofs.Common.{rules}
 use Rattle.sign_print.proofs.size.Statement.{statement}
 use Rattle.sign_print.proofs.size.Tie as tie
 
-pub size-spec : {M : Type 1} → statement M
-size-spec =
+pub size_spec : {M : Type 1} → statement M
+size_spec =
     tie.close
     (tie.spec
     (λ c. search size_up)

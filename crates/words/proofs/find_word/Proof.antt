@@ -4,8 +4,8 @@ use Rattle.words.proofs.RateWords.{choice_part, x_part, found_period_part, pair_
 use Rattle.words.proofs.find_word.Statement.{statement}
 use Rattle.words.proofs.find_word.Tie as tie
 
-pub find-word-spec : {M : Type 1} → statement M
-find-word-spec =
+pub find_word_spec : {M : Type 1} → statement M
+find_word_spec =
     tie.close
     (tie.spec
     (λ c. search rules)

@@ -4,8 +4,8 @@ use Rattle.words.proofs.RateWords.{period_part, clock_part, ratio_part, unset_pa
 use Rattle.words.proofs.rate_word.Statement.{statement}
 use Rattle.words.proofs.rate_word.Tie as tie
 
-pub rate-word-spec : {M : Type 1} → statement M
-rate-word-spec =
+pub rate_word_spec : {M : Type 1} → statement M
+rate_word_spec =
     tie.close
     (tie.spec
     (λ c. search rules)

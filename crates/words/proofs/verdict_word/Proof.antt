@@ -5,8 +5,8 @@ use Rattle.words.proofs.JudgeWord.{index_place, index_beside, index_part, refuse
 use Rattle.words.proofs.verdict_word.Statement.{statement}
 use Rattle.words.proofs.verdict_word.Tie as tie
 
-pub verdict-word-spec : {M : Type 1} → statement M
-verdict-word-spec =
+pub verdict_word_spec : {M : Type 1} → statement M
+verdict_word_spec =
     tie.close
     (tie.spec
     (λ c. search rules)
