@@ -40,25 +40,25 @@ module _ (s : List ℕ) (f : Flat) where
   pub pwms_none : f ≡ pwms_to 0
   pwms_none = ap (flat_pwms f) (loaded_none 16 load_pwm s 224 f.pwms)
 
-  module _ {Y : Type 0} (g : Encoder → Y) (known : length (map g f.encoders) ≡ 20) (x : Flat) (i : ℕ) (here : x ≡ encoders_to i) where
+  module _ (known : length f.encoders ≡ 20) (x : Flat) (i : ℕ) (here : x ≡ encoders_to i) where
     pub encoders_next : (v : ℕ) (e : Encoder) → i < 20 → v ≡ le_of 8 s (64 + 8 * i) → e ≡ encoder_of v → flat_encoders x (set x.encoders i e) ≡ encoders_to (i + 1)
     encoders_next v e h p q =
-        rw (q, p, here) (ap (flat_encoders f) (loaded_more 8 (load_word encoder_of) s 64 f.encoders i (omega (arith, long_field _ _ g f.encoders 20 known))))
+        rw (q, p, here) (ap (flat_encoders f) (loaded_more 8 (load_word encoder_of) s 64 f.encoders i (omega (arith, known))))
 
     pub encoders_all : i ≤ 20 → 20 ≤ i → x ≡ with_encoders f s
     unfolding with_encoders
-    encoders_all h k = here ∙ ap (flat_encoders f) (loaded_all 8 (load_word encoder_of) s 64 f.encoders i 20 (long_field _ _ g f.encoders 20 known) h k)
+    encoders_all h k = here ∙ ap (flat_encoders f) (loaded_all 8 (load_word encoder_of) s 64 f.encoders i 20 known h k)
 
-  module _ {Y : Type 0} (g : Pwm → Y) (known : length (map g f.pwms) ≡ 40) (x : Flat) (i : ℕ) (here : x ≡ pwms_to i) where
+  module _ (known : length f.pwms ≡ 40) (x : Flat) (i : ℕ) (here : x ≡ pwms_to i) where
     pub pwms_next : (v w : ℕ) (p : Pwm) → i < 40 → v ≡ le_of 8 s (224 + 16 * i) → w ≡ le_of 8 s (232 + 16 * i) → p ≡ pwm_of v w
         → flat_pwms x (set x.pwms i p) ≡ pwms_to (i + 1)
     pwms_next v w p h a b q =
         let e : 232 + 16 * i ≡ 224 + 16 * i + 8 = omega arith in
-        rw (q, a, b, e, here) (ap (flat_pwms f) (loaded_more 16 load_pwm s 224 f.pwms i (omega (arith, long_field _ _ g f.pwms 40 known))))
+        rw (q, a, b, e, here) (ap (flat_pwms f) (loaded_more 16 load_pwm s 224 f.pwms i (omega (arith, known))))
 
     pub pwms_all : i ≤ 40 → 40 ≤ i → x ≡ with_pwms f s
     unfolding with_pwms
-    pwms_all h k = here ∙ ap (flat_pwms f) (loaded_all 16 load_pwm s 224 f.pwms i 40 (long_field _ _ g f.pwms 40 known) h k)
+    pwms_all h k = here ∙ ap (flat_pwms f) (loaded_all 16 load_pwm s 224 f.pwms i 40 known h k)
 
 module _ (s l : List ℕ) where
   abbrev pub bytes_to : ℕ → List ℕ

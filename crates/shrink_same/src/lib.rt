@@ -1,3 +1,2 @@
 // What is shown of the smaller log; there is no code.
 #![tactic(auto)]
-

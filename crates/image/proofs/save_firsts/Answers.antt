@@ -3,6 +3,8 @@ use Rattle.image.proofs.Steps.{firsts_put}
 use borrow.Author.Rules.{rules}
 use Rattle.image.proofs.save_firsts.Goals as goal
 
-pub returns : goal.returns
-returns c = let start = c.before.before.before.before.before.before.before.before.before.before.before.before.before.before.before.before.before.before.before.before.before.before.before in
-    (firsts_put start.args.t1 (search rules) (search (long_field, start.well_formed)) _ _ _ _ _ _ _ _ c.put64.ensures c.put64-2.ensures c.i2c_number.ensures c.put64-3.ensures c.i2c_number-2.ensures c.put64-4.ensures, (search rules, search (long_field, start.well_formed)))
+pub returns-clause-out_after : goal.returns-clause-out_after
+returns-clause-out_after c = firsts_put c.args.f (search rules) (search (long_field, c.well_formed)) _ _ _ _ _ _ _ _ c.put64.ensures c.put64-2.ensures c.i2c_number.ensures c.put64-3.ensures c.i2c_number-2.ensures c.put64-4.ensures
+
+pub returns-clause-i2cs_len : goal.returns-clause-i2cs_len
+returns-clause-i2cs_len c = search (long_field, c.well_formed)

@@ -4,8 +4,8 @@ use Rattle.printed.proofs.Prints.{put_counts}
 use Rattle.replay_print.proofs.replay_input.Statement.{statement}
 use Rattle.replay_print.proofs.replay_input.Tie as tie
 
-pub replay-input-spec : {M : Type 1} → statement M
-replay-input-spec =
+pub replay_input_spec : {M : Type 1} → statement M
+replay_input_spec =
     tie.close
     (tie.spec
     (λ c. search rules)
