@@ -6,14 +6,14 @@ use Rattle.dump.proofs.Passes.{Going, begins, same_long, ends, ticks_fit, time_f
 use Rattle.dump.proofs.body.Statement.{statement}
 use Rattle.dump.proofs.body.Tie as tie
 
-abbrev invariant-loop : tie.invariant-loop
+abbrev invariant-loop : tie.invariant-loop-i
 invariant-loop log start n out₀ from pins₀ time₀ told₀ at₀ i₀ out pins time told at i = Going log start n pins₀ out₀ from out pins time told at i
 
-abbrev decreases-loop : tie.decreases-loop
+abbrev decreases-loop : tie.decreases-loop-i
 decreases-loop log start n out₀ from pins₀ time₀ told₀ at₀ i₀ out pins time told at i = n - i
 
-pub body-spec : {M : Type 1} → statement M
-body-spec =
+pub body_spec : {M : Type 1} → statement M
+body_spec =
     tie.close
     (tie.spec
     invariant-loop

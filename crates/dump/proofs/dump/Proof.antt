@@ -5,8 +5,8 @@ use Rattle.dump.proofs.Whole.{is_ready, found_answer, found_output}
 use Rattle.dump.proofs.dump.Statement.{statement}
 use Rattle.dump.proofs.dump.Tie as tie
 
-pub dump-spec : {M : Type 1} → statement M
-dump-spec =
+pub dump_spec : {M : Type 1} → statement M
+dump_spec =
     tie.close
     (tie.spec
     (λ c κs. search rules)

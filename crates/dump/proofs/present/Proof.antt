@@ -5,14 +5,14 @@ use Rattle.dump.proofs.Passes.{Marking, marking, all_marked, marks_wait, pins_en
 use Rattle.dump.proofs.present.Statement.{statement}
 use Rattle.dump.proofs.present.Tie as tie
 
-abbrev invariant-loop : tie.invariant-loop
+abbrev invariant-loop : tie.invariant-loop-i
 invariant-loop log start n pins₀ i₀ pins i = Marking log start n pins i
 
-abbrev decreases-loop : tie.decreases-loop
+abbrev decreases-loop : tie.decreases-loop-i
 decreases-loop log start n pins₀ i₀ pins i = n - i
 
-pub present-spec : {M : Type 1} → statement M
-present-spec =
+pub present_spec : {M : Type 1} → statement M
+present_spec =
     tie.close
     (tie.spec
     invariant-loop

@@ -4,8 +4,8 @@ use Rattle.dump.proofs.Views.{pins_at, ticks_at, none_at}
 use Rattle.dump.proofs.seen.Statement.{statement}
 use Rattle.dump.proofs.seen.Tie as tie
 
-pub seen-spec : {M : Type 1} → statement M
-seen-spec =
+pub seen_spec : {M : Type 1} → statement M
+seen_spec =
     tie.close
     (tie.spec
     (λ c. search rules)

@@ -4,8 +4,8 @@ use Rattle.dump.proofs.Whole.{place_answer, place_output, own_count, own_answer,
 use Rattle.dump.proofs.write_all.Statement.{statement}
 use Rattle.dump.proofs.write_all.Tie as tie
 
-pub write-all-spec : {M : Type 1} → statement M
-write-all-spec =
+pub write_all_spec : {M : Type 1} → statement M
+write_all_spec =
     tie.close
     (tie.spec
     (λ c κs. search rules)

@@ -6,8 +6,8 @@ use Rattle.stream.proofs.Ways.{long, applied_told, nothing}
 use Rattle.stream.proofs.applied.Statement.{statement}
 use Rattle.stream.proofs.applied.Tie as tie
 
-pub applied-spec : {M : Type 1} → statement M
-applied-spec =
+pub applied_spec : {M : Type 1} → statement M
+applied_spec =
     tie.close
     (tie.spec
     (λ c κs. search rules)
