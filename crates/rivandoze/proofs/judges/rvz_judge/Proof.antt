@@ -4,5 +4,5 @@ use Rattle.words.proofs.JudgeWord.{index_small, judge_word}
 use Rattle.rivandoze.proofs.judges.rvz_judge.Statement.{statement}
 use Rattle.rivandoze.proofs.judges.rvz_judge.Tie as tie
 
-pub rvz-judge-spec : {M : Type 1} → statement M
-rvz-judge-spec = tie.close (tie.spec (λ c κs. search rules) (λ c κs. search index_small) (λ c. search judge_word))
+pub rvz_judge_spec : {M : Type 1} → statement M
+rvz_judge_spec = tie.close (tie.spec (λ c κs. search rules) (λ c κs. search index_small) (λ c. search judge_word))

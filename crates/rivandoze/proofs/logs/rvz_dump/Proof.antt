@@ -4,8 +4,8 @@ use Rattle.rivandoze.proofs.Calls.{dump_small, made_word}
 use Rattle.rivandoze.proofs.logs.rvz_dump.Statement.{statement}
 use Rattle.rivandoze.proofs.logs.rvz_dump.Tie as tie
 
-pub rvz-dump-spec : {M : Type 1} → statement M
-rvz-dump-spec =
+pub rvz_dump_spec : {M : Type 1} → statement M
+rvz_dump_spec =
     tie.close
     (tie.spec
     (λ c κs. search rules)

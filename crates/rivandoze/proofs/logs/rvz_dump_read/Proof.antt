@@ -4,8 +4,8 @@ use Rattle.rivandoze.proofs.Calls.{entries_word}
 use Rattle.rivandoze.proofs.logs.rvz_dump_read.Statement.{statement}
 use Rattle.rivandoze.proofs.logs.rvz_dump_read.Tie as tie
 
-pub rvz-dump-read-spec : {M : Type 1} → statement M
-rvz-dump-read-spec =
+pub rvz_dump_read_spec : {M : Type 1} → statement M
+rvz_dump_read_spec =
     tie.close
     (tie.spec
     (λ c κs. search rules)

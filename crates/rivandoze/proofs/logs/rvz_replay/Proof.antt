@@ -4,8 +4,8 @@ use Rattle.rivandoze.proofs.Calls.{replay_small, replay_word}
 use Rattle.rivandoze.proofs.logs.rvz_replay.Statement.{statement}
 use Rattle.rivandoze.proofs.logs.rvz_replay.Tie as tie
 
-pub rvz-replay-spec : {M : Type 1} → statement M
-rvz-replay-spec =
+pub rvz_replay_spec : {M : Type 1} → statement M
+rvz_replay_spec =
     tie.close
     (tie.spec
     (λ c κs. search rules)

@@ -4,8 +4,8 @@ use Rattle.rivandoze.proofs.Calls.{shrink_small, made_word}
 use Rattle.rivandoze.proofs.logs.rvz_shrink.Statement.{statement}
 use Rattle.rivandoze.proofs.logs.rvz_shrink.Tie as tie
 
-pub rvz-shrink-spec : {M : Type 1} → statement M
-rvz-shrink-spec =
+pub rvz_shrink_spec : {M : Type 1} → statement M
+rvz_shrink_spec =
     tie.close
     (tie.spec
     (λ c κs. search rules)

@@ -4,8 +4,8 @@ use Rattle.rivandoze.proofs.Calls.{sign_small, sign_word}
 use Rattle.rivandoze.proofs.logs.rvz_sign.Statement.{statement}
 use Rattle.rivandoze.proofs.logs.rvz_sign.Tie as tie
 
-pub rvz-sign-spec : {M : Type 1} → statement M
-rvz-sign-spec =
+pub rvz_sign_spec : {M : Type 1} → statement M
+rvz_sign_spec =
     tie.close
     (tie.spec
     (λ c κs. search rules)

@@ -4,8 +4,8 @@ use Rattle.rivandoze.proofs.Calls.{number_word}
 use Rattle.rivandoze.proofs.logs.rvz_stream_start.Statement.{statement}
 use Rattle.rivandoze.proofs.logs.rvz_stream_start.Tie as tie
 
-pub rvz-stream-start-spec : {M : Type 1} → statement M
-rvz-stream-start-spec =
+pub rvz_stream_start_spec : {M : Type 1} → statement M
+rvz_stream_start_spec =
     tie.close
     (tie.spec
     (λ c κs. search rules)

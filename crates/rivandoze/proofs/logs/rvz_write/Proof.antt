@@ -4,8 +4,8 @@ use Rattle.rivandoze.proofs.Calls.{write_word}
 use Rattle.rivandoze.proofs.logs.rvz_write.Statement.{statement}
 use Rattle.rivandoze.proofs.logs.rvz_write.Tie as tie
 
-pub rvz-write-spec : {M : Type 1} → statement M
-rvz-write-spec =
+pub rvz_write_spec : {M : Type 1} → statement M
+rvz_write_spec =
     tie.close
     (tie.spec
     (λ c κs. search rules)

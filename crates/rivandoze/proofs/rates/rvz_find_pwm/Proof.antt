@@ -4,8 +4,8 @@ use Rattle.words.proofs.RateWords.{narrow_pwm, parts_fit, found_word}
 use Rattle.rivandoze.proofs.rates.rvz_find_pwm.Statement.{statement}
 use Rattle.rivandoze.proofs.rates.rvz_find_pwm.Tie as tie
 
-pub rvz-find-pwm-spec : {M : Type 1} → statement M
-rvz-find-pwm-spec =
+pub rvz_find_pwm_spec : {M : Type 1} → statement M
+rvz_find_pwm_spec =
     tie.close
     (tie.spec
     (λ c κs. search rules)

@@ -4,8 +4,8 @@ use Rattle.words.proofs.RateWords.{narrow_spi, parts_fit, found_word}
 use Rattle.rivandoze.proofs.rates.rvz_find_spi.Statement.{statement}
 use Rattle.rivandoze.proofs.rates.rvz_find_spi.Tie as tie
 
-pub rvz-find-spi-spec : {M : Type 1} → statement M
-rvz-find-spi-spec =
+pub rvz_find_spi_spec : {M : Type 1} → statement M
+rvz_find_spi_spec =
     tie.close
     (tie.spec
     (λ c κs. search rules)

@@ -4,8 +4,8 @@ use Rattle.words.proofs.RateWords.{narrow_pwm, period_fits, clock_fits, rated_wo
 use Rattle.rivandoze.proofs.rates.rvz_rate_pwm.Statement.{statement}
 use Rattle.rivandoze.proofs.rates.rvz_rate_pwm.Tie as tie
 
-pub rvz-rate-pwm-spec : {M : Type 1} → statement M
-rvz-rate-pwm-spec =
+pub rvz_rate_pwm_spec : {M : Type 1} → statement M
+rvz_rate_pwm_spec =
     tie.close
     (tie.spec
     (λ c κs. search rules)

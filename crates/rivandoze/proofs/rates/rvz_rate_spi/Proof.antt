@@ -4,8 +4,8 @@ use Rattle.words.proofs.RateWords.{narrow_spi, period_fits, clock_fits, rated_wo
 use Rattle.rivandoze.proofs.rates.rvz_rate_spi.Statement.{statement}
 use Rattle.rivandoze.proofs.rates.rvz_rate_spi.Tie as tie
 
-pub rvz-rate-spi-spec : {M : Type 1} → statement M
-rvz-rate-spi-spec =
+pub rvz_rate_spi_spec : {M : Type 1} → statement M
+rvz_rate_spi_spec =
     tie.close
     (tie.spec
     (λ c κs. search rules)
