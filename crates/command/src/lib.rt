@@ -2,10 +2,12 @@
 #![tactic(auto)]
 
 ghost use Rattle.std.specs.Prelude.{◌≡◌};
-ghost use Rattle.io.specs.Counts.{IsPrefixLen};
+ghost use Rattle.outside.specs.Counts.{IsPrefixLen};
 ghost use Rattle.command.specs.Asked.{alone_of, of_two, command_of};
 
 use decimal::Decimal;
+use rate_print::same;
+use std::rt::Env;
 
 // What the arguments ask for.
 #[derive(Clone, Copy)]
@@ -26,16 +28,16 @@ pub enum Command {
 fn alone(word: &[u8]) -> Command
     ensures { result ≡ alone_of word.now }
 {
-    if check::same(word, b"dump") {
+    if same(word, b"dump") {
         return Command::Dump;
     }
-    if check::same(word, b"shrink") {
+    if same(word, b"shrink") {
         return Command::Shrink;
     }
-    if check::same(word, b"sign") {
+    if same(word, b"sign") {
         return Command::Sign;
     }
-    if check::same(word, b"version") {
+    if same(word, b"version") {
         return Command::Version;
     }
     Command::Help
@@ -45,10 +47,10 @@ fn alone(word: &[u8]) -> Command
 fn of_two(word: &[u8]) -> Command
     ensures { result ≡ of_two word.now }
 {
-    if check::same(word, b"judge") {
+    if same(word, b"judge") {
         return Command::Judge;
     }
-    if check::same(word, b"stream") {
+    if same(word, b"stream") {
         return Command::Stream;
     }
     Command::Help
@@ -64,7 +66,7 @@ pub fn asked(word: &[u8], words: usize) -> Command
     if words == 2 {
         return alone(word);
     }
-    if check::same(word, b"write") {
+    if same(word, b"write") {
         if words <= 4 {
             return Command::Write;
         }
@@ -103,18 +105,23 @@ RATE is in millihertz, thousandths of a hertz: 40125 is 40.125 Hz. TOL is in mil
 }
 
 // Argument i as a number. One that does not fit the buffer is no number, since `arg` then gives no byte of it.
-fn number(i: usize) -> Decimal {
-    let mut word = io::buffer();
-    let n = os::arg(i, &mut word);
+fn number(rt: &impl Env, i: usize) -> Decimal {
+    let mut word = outside::buffer();
+    let n = outside::arg(rt, i, &mut word);
     decimal::read(&word[..n])
 }
 
-pub fn rate(text: &mut [u8]) -> usize
+pub fn rate(rt: &impl Env, text: &mut [u8]) -> usize
     ensures { IsPrefixLen result text.new }
 {
-    let mut word = io::buffer();
-    let n = os::arg(1, &mut word);
-    let said = rate_print::say(text, rate_print::asked(&word[..n]), number(2), number(3));
+    let mut word = outside::buffer();
+    let n = outside::arg(rt, 1, &mut word);
+    let said = rate_print::say(
+        text,
+        rate_print::asked(&word[..n]),
+        number(rt, 2),
+        number(rt, 3),
+    );
     if said == 0 {
         return usage(text);
     }

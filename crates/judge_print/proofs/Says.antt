@@ -1,7 +1,7 @@
 -- A verdict's text counts its bytes. Assumes nothing.
 use mathlib.Core.List.{List}
 use Prim.Native.Nat.{ℕ}
-use Rattle.io.specs.Counts.{IsPrefixLen}
+use Rattle.outside.specs.Counts.{IsPrefixLen}
 use Rattle.printed.proofs.Prints.{put_counts}
 use Rattle.judge_print.specs.Verdicts.{verdict_text, VerdictSaid}
 

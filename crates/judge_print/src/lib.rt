@@ -1,11 +1,12 @@
 // What `rvz judge` prints: the verdict on the transcript in a file, by the log on standard input.
 #![tactic(auto)]
 
-ghost use Rattle.io.specs.Counts.{IsPrefixLen};
+ghost use Rattle.outside.specs.Counts.{IsPrefixLen};
 ghost use Rattle.decimal.specs.Put.{Put};
 ghost use Rattle.judge_print.specs.Verdicts.{verdict_text, VerdictSaid};
 
-use libc::STDIN_FILENO;
+use std::io::Input;
+use std::rt::{Env, Files};
 use transcript::Verdict;
 
 fn say_verdict(text: &mut [u8], verdict: Verdict) -> usize
@@ -28,19 +29,16 @@ pub fn judge_log(text: &mut [u8], log: &[u8], transcript: &[u8]) -> usize
 }
 
 // One byte more than the longest transcript has, so that an over-long one shows.
-pub fn judge_input(text: &mut [u8]) -> usize
+pub fn judge_input(rt: &(impl Env + Files + Input), text: &mut [u8]) -> usize
     ensures { IsPrefixLen result text.new }
 {
-    let mut path = io::buffer();
-    let n = os::arg(2, &mut path);
-    let file = os::open_read(&path[..n]);
-    if file < 0 {
-        return text::put_word(text, 0, b"the transcript's file cannot be opened\n");
-    }
+    let mut path = outside::buffer();
+    let n = outside::arg(rt, 2, &mut path);
     let mut transcript = [0u8; 16377];
-    let m = io::read_full(file, &mut transcript);
-    libc::close(file);
+    let Some(m) = outside::read_file(rt, &path[..n], &mut transcript) else {
+        return text::put_word(text, 0, b"the transcript's file cannot be opened\n");
+    };
     let mut log = [0u8; 32769];
-    let n = io::read_full(STDIN_FILENO, &mut log);
+    let n = outside::read_input(rt, &mut log);
     judge_log(text, &log[..n], &transcript[..m])
 }

@@ -9,7 +9,7 @@ use lib.ListN.{length, length-append}
 use lib.Seq.{take_at, length-take-le}
 use borrow.Author.Tests.{eq-eqb, ne_eqb, ltb-true, ltb-false}
 use Rattle.decimal.specs.Ascii.{ascii}
-use Rattle.io.specs.Counts.{IsPrefixLen}
+use Rattle.outside.specs.Counts.{IsPrefixLen}
 use Rattle.decimal.specs.Digits.{digits_of}
 use Rattle.decimal.specs.Put.{Put}
 use Rattle.decimal.proofs.Back.{twenty_digits}

@@ -1,6 +1,6 @@
 -- What a command that makes a log or a dump writes. Assumes nothing.
 use Rattle.std.specs.Prelude.{◌≡◌, true, false, not, cond, List, ℕ, ◌≤◌, ◌<◌, ltb, eqb, take}
-use Rattle.io.specs.Counts.{IsPrefixLen}
+use Rattle.outside.specs.Counts.{IsPrefixLen}
 use Rattle.decimal.specs.Put.{Put}
 use Rattle.fold.specs.Output.{number_of}
 use Rattle.text.specs.Text.{refused_text, refused_record_text}

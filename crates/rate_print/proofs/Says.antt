@@ -7,7 +7,7 @@ use lib.Dec.{eqb}
 use borrow.Author.Tests.{eqb-true, eq-eqb}
 use Rattle.laws.proofs.Truth.{both_true}
 use Rattle.laws.proofs.Cases.{taken, left}
-use Rattle.io.specs.Counts.{IsPrefixLen}
+use Rattle.outside.specs.Counts.{IsPrefixLen}
 use Rattle.decimal.specs.declared.Decimal.{Decimal}
 use Rattle.decimal.specs.declared.Decimal.TheVariants.{Number, NoNumber}
 use Rattle.decimal.specs.Put.{Put}

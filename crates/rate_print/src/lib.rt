@@ -1,8 +1,8 @@
 // What `rvz pwm`, `spi`, `pwm-rate` and `spi-rate` print.
 #![tactic(auto)]
 
-ghost use Rattle.std.specs.Prelude.{◌≡◌};
-ghost use Rattle.io.specs.Counts.{IsPrefixLen};
+ghost use Rattle.std.specs.Prelude.{◌≡◌, true};
+ghost use Rattle.outside.specs.Counts.{IsPrefixLen};
 ghost use Rattle.decimal.specs.Put.{Put};
 ghost use Rattle.rate_print.specs.Said.{question_of, rule_of, found_text, rated_text, PairSaid, RateSaid, AnswerSaid};
 
@@ -17,19 +17,26 @@ pub enum Question {
     Other,
 }
 
+// Whether two words are the same.
+pub fn same(a: &[u8], b: &[u8]) -> bool
+    ensures { (result ≡ true → a.now ≡ b.now) × (a.now ≡ b.now → result ≡ true) }
+{
+    a == b
+}
+
 pub fn asked(word: &[u8]) -> Question
     ensures { result ≡ question_of word.now }
 {
-    if check::same(word, b"pwm") {
+    if same(word, b"pwm") {
         return Question::Pair(false);
     }
-    if check::same(word, b"spi") {
+    if same(word, b"spi") {
         return Question::Pair(true);
     }
-    if check::same(word, b"pwm-rate") {
+    if same(word, b"pwm-rate") {
         return Question::Rate(false);
     }
-    if check::same(word, b"spi-rate") {
+    if same(word, b"spi-rate") {
         return Question::Rate(true);
     }
     Question::Other

@@ -2,11 +2,11 @@
 #![tactic(auto)]
 
 ghost use Rattle.std.specs.Prelude.{◌≤◌, length};
-ghost use Rattle.io.specs.Counts.{IsPrefixLen};
+ghost use Rattle.outside.specs.Counts.{IsPrefixLen};
 ghost use Rattle.decimal.specs.Put.{Put};
 ghost use Rattle.replay_print.specs.Said.{said_of};
 
-use libc::STDIN_FILENO;
+use std::io::Input;
 
 // What a log's replay prints. 16,384 bytes have room for 2,048 readings, one more than a log can have; their lines, of at most 21 bytes, and
 // the last, of at most 58, fit 43,066.
@@ -21,10 +21,10 @@ pub fn replay_log(text: &mut [u8], log: &[u8]) -> usize
 }
 
 // One byte more than a log may have, so that an over-long one shows.
-pub fn replay_input(text: &mut [u8]) -> usize
+pub fn replay_input(rt: &impl Input, text: &mut [u8]) -> usize
     ensures { IsPrefixLen result text.new }
 {
     let mut log = [0u8; 32769];
-    let n = io::read_full(STDIN_FILENO, &mut log);
+    let n = outside::read_input(rt, &mut log);
     replay_log(text, &log[..n])
 }

@@ -3,7 +3,7 @@ use mathlib.Core.Path.{◌≡◌}
 use mathlib.Core.Bool.{false}
 use mathlib.Core.List.{List}
 use Prim.Native.Nat.{ℕ}
-use Rattle.io.specs.Counts.{IsPrefixLen}
+use Rattle.outside.specs.Counts.{IsPrefixLen}
 use Rattle.decimal.specs.Put.{Put}
 use Rattle.printed.specs.declared.Printed.{Printed}
 use Rattle.printed.proofs.Prints.{put_counts}

@@ -1,21 +1,24 @@
 // With no argument it replays the log on standard input; the first argument asks for something else. It has no exit status to give, so all it
 // has to say goes to standard output, but for the refusal of a dump, of a smaller log or of records: built in one buffer by a crate for
 // each command, every byte promised, and written at once; the readings of a stream are written before, as they come. What is read and
-// written no contract can say: the functions here promise how many bytes there are, and no more.
+// written no contract can say: the functions here promise how many bytes there are, and no more. A write that fails ends the program with
+// its error.
 #![tactic(auto)]
 
-ghost use Rattle.std.specs.Prelude.{◌≡◌, false, ◌≤◌, length};
-ghost use Rattle.io.specs.Counts.{IsPrefixLen};
+ghost use Rattle.std.specs.Prelude.{◌≡◌, false, ◌≤◌, length, IfOk, OnErr};
+ghost use Rattle.outside.specs.Counts.{IsPrefixLen};
 
 use command::Command;
-use libc::{STDERR_FILENO, STDOUT_FILENO};
 use printed::Printed;
+use std::io;
+use std::io::{Input, Print};
+use std::rt::{Env, Files};
 
 // Where there is no argument, `arg` gives no byte.
-fn wanted() -> Command {
-    let words = os::arg_count();
-    let mut word = io::buffer();
-    let n = os::arg(1, &mut word);
+fn wanted(rt: &impl Env) -> Command {
+    let words = outside::arg_count(rt);
+    let mut word = outside::buffer();
+    let n = outside::arg(rt, 1, &mut word);
     command::asked(&word[..n], words)
 }
 
@@ -28,37 +31,42 @@ fn plain(size: usize) -> Printed
     }
 }
 
-fn print(text: &mut [u8], command: Command) -> Printed
+// Of a stream the readings are written, and the text is as it was where that fails.
+fn print(
+    rt: &(impl Env + Files + Input + Print),
+    text: &mut [u8],
+    command: Command,
+) -> io::Result<Printed>
     requires { 298920 ≤ length text.old }
-    ensures { IsPrefixLen result.size text.new }
+    ensures prefix_len { IfOk result (λ r. IsPrefixLen r.size text.new) }
+    ensures unchanged { OnErr result (text.new ≡ text.old) }
 {
     match command {
-        Command::Replay => plain(replay_print::replay_input(text)),
-        Command::Dump => dump_print::dump_input(text),
-        Command::Shrink => shrink_print::shrink_input(text),
-        Command::Sign => plain(sign_print::sign_input(text)),
-        Command::Judge => plain(judge_print::judge_input(text)),
-        Command::Write => write_print::write_input(text),
-        Command::Stream => stream_print::stream_input(text),
-        Command::Rate => plain(command::rate(text)),
-        Command::Version => plain(text::put_word(text, 0, b"rvz 1.0.0\n")),
-        Command::Help => plain(command::usage(text)),
+        Command::Replay => Ok(plain(replay_print::replay_input(rt, text))),
+        Command::Dump => Ok(dump_print::dump_input(rt, text)),
+        Command::Shrink => Ok(shrink_print::shrink_input(rt, text)),
+        Command::Sign => Ok(plain(sign_print::sign_input(rt, text))),
+        Command::Judge => Ok(plain(judge_print::judge_input(rt, text))),
+        Command::Write => Ok(write_print::write_input(rt, text)),
+        Command::Stream => stream_print::stream_input(rt, text),
+        Command::Rate => Ok(plain(command::rate(rt, text))),
+        Command::Version => Ok(plain(text::put_word(text, 0, b"rvz 1.0.0\n"))),
+        Command::Help => Ok(plain(command::usage(text))),
     }
 }
 
 // A refusal goes to standard error: standard output has a whole dump or log, or nothing.
-fn tell(text: &[u8], refused: bool) {
+fn tell(out: &impl Print, errors: &impl Print, text: &[u8], refused: bool) -> io::Result<()> {
     if refused {
-        io::write_all(STDERR_FILENO, text);
-        return;
+        return errors.write_all(text);
     }
-    io::write_all(STDOUT_FILENO, text);
+    out.write_all(text)
 }
 
 // The longest text is that of `sign`.
-fn main() {
+fn main(rt: HostRuntime) -> io::Result<()> {
     let mut text = [0u8; 298920];
-    let printed = print(&mut text, wanted());
+    let printed = print(&rt, &mut text, wanted(&rt))?;
     let n = printed.size;
-    tell(&text[..n], printed.refused);
+    tell(&rt.stdout(), &rt.stderr(), &text[..n], printed.refused)
 }

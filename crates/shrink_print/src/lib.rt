@@ -2,12 +2,12 @@
 #![tactic(auto)]
 
 ghost use Rattle.std.specs.Prelude.{◌≤◌, length};
-ghost use Rattle.io.specs.Counts.{IsPrefixLen};
+ghost use Rattle.outside.specs.Counts.{IsPrefixLen};
 ghost use Rattle.shrink.specs.Shrink.{smaller_of};
 ghost use Rattle.printed.specs.Printed.{MadePrinted};
 
-use libc::STDIN_FILENO;
 use printed::Printed;
+use std::io::Input;
 
 pub fn shrink_log(text: &mut [u8], log: &[u8]) -> Printed
     requires { 32768 ≤ length text.old }
@@ -18,11 +18,11 @@ pub fn shrink_log(text: &mut [u8], log: &[u8]) -> Printed
 }
 
 // The log on standard input. What is read no contract can say.
-pub fn shrink_input(text: &mut [u8]) -> Printed
+pub fn shrink_input(rt: &impl Input, text: &mut [u8]) -> Printed
     requires { 32768 ≤ length text.old }
     ensures { IsPrefixLen result.size text.new }
 {
     let mut log = [0u8; 32769];
-    let n = io::read_full(STDIN_FILENO, &mut log);
+    let n = outside::read_input(rt, &mut log);
     shrink_log(text, &log[..n])
 }

@@ -2,7 +2,7 @@
 use Rattle.std.proofs.Common.{◌≡◌, ℕ, ◌+◌, ◌-◌, ◌*◌, ◌^◌, ◌<◌, ◌≤◌, true, leb, List, [], ◌∷◌, ◌++◌, map, length, take, sym, refl, ap, ◌∙◌, arith, length-append, length-take-le, take_all, le-leb}
 use mathlib.Core.List.{flatten}
 use Rattle.decimal.specs.Ascii.{ascii}
-use Rattle.io.specs.Counts.{IsPrefixLen}
+use Rattle.outside.specs.Counts.{IsPrefixLen}
 use Rattle.decimal.specs.Put.{Put}
 use Rattle.decimal.proofs.Puts.{put_nothing, put_then, put_long}
 use Rattle.fold.specs.Output.{number_of, stop_of}

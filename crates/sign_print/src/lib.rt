@@ -3,7 +3,7 @@
 #![tactic(auto)]
 
 ghost use Rattle.std.specs.Prelude.{◌≡◌, ◌+◌, ◌-◌, ◌*◌, ◌<◌, ◌≤◌, length, unsigned_abs};
-ghost use Rattle.io.specs.Counts.{IsPrefixLen};
+ghost use Rattle.outside.specs.Counts.{IsPrefixLen};
 ghost use Rattle.decimal.specs.Put.{Put};
 ghost use Rattle.fold.specs.Output.{stop_of};
 ghost use Rattle.replay.specs.Replay.{replay_of};
@@ -12,7 +12,7 @@ ghost use Rattle.sign_print.specs.Said.{stretches_text, end_text, sign_text};
 ghost use Rattle.sign_print.specs.How.{whole_of, words_at, numbered_text, numbers_of, spelt, spelt_at, There, Entries};
 
 use fold::Stop;
-use libc::STDIN_FILENO;
+use std::io::Input;
 use std::num::{wrapping_add_u64, wrapping_sub_u64};
 
 // ---- numbers
@@ -162,10 +162,10 @@ pub fn sign_log(text: &mut [u8], log: &[u8]) -> usize
 }
 
 // The log on standard input, one byte more than it may have, so that an over-long one shows. What is read no contract can say.
-pub fn sign_input(text: &mut [u8]) -> usize
+pub fn sign_input(rt: &impl Input, text: &mut [u8]) -> usize
     ensures { IsPrefixLen result text.new }
 {
     let mut log = [0u8; 32769];
-    let n = io::read_full(STDIN_FILENO, &mut log);
+    let n = outside::read_input(rt, &mut log);
     sign_log(text, &log[..n])
 }

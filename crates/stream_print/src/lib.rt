@@ -1,8 +1,8 @@
 // What `rvz stream` prints: each reading as soon as its record is there, and how the stream ended.
 #![tactic(auto)]
 
-ghost use Rattle.std.specs.Prelude.{◌≡◌, ◌≤◌, length};
-ghost use Rattle.io.specs.Counts.{IsPrefixLen};
+ghost use Rattle.std.specs.Prelude.{◌≡◌, ◌≤◌, length, IfOk, OnErr};
+ghost use Rattle.outside.specs.Counts.{IsPrefixLen};
 ghost use Rattle.decimal.specs.Put.{Put};
 ghost use Rattle.live_state.specs.How.{live_of, Good};
 ghost use Rattle.stream_print.specs.Shown.{arrived, shown_of, last_of, no_edition};
@@ -10,9 +10,11 @@ ghost use Rattle.stream_print.specs.How.{Ready};
 
 use decimal::Decimal;
 use edition::Edition;
-use libc::{STDIN_FILENO, STDOUT_FILENO};
 use live_state::Stream;
 use printed::Printed;
+use std::io;
+use std::io::{Input, Print};
+use std::rt::Env;
 
 // The stream after a chunk, and the size of what is printed of it.
 #[derive(Clone, Copy)]
@@ -62,18 +64,18 @@ pub fn no_edition_text(text: &mut [u8]) -> usize
     text::put_pair(text, 0, b"applied ", 0, b" refused ", 4)
 }
 
-// A chunk's readings, written at once.
-fn show(s: Stream, bytes: &[u8]) -> Stream
+// A chunk's readings, written at once, or the error of that write.
+fn show(rt: &impl Print, s: Stream, bytes: &[u8]) -> io::Result<Stream>
     requires ready { Ready s }
     requires bytes_len_bound { length bytes.now ≤ 4096 }
-    ensures result_value { live_of result ≡ (arrived (live_of s) bytes.now).live }
-    ensures ready_2 { Ready result }
+    ensures result_value { IfOk result (λ r. live_of r ≡ (arrived (live_of s) bytes.now).live) }
+    ensures ready_2 { IfOk result (λ r. Ready r) }
 {
     let mut text = [0u8; 5397];
     let shown = chunk_text(&mut text, s, bytes);
     let n = shown.size;
-    io::write_all(STDOUT_FILENO, &text[..n]);
-    shown.stream
+    rt.write_all(&text[..n])?;
+    Ok(shown.stream)
 }
 
 // The stream after what a read gave, and whether more is to be read: not after the input's end, nor after a refused record, whose answer no
@@ -85,59 +87,60 @@ struct Next {
 }
 
 // Whatever is there is a chunk. What is read no contract can say.
-fn read_on(s: Stream) -> Next
+fn read_on(rt: &(impl Input + Print), s: Stream) -> io::Result<Next>
     requires { Ready s }
-    ensures { Ready result.stream }
+    ensures { IfOk result (λ r. Ready r.stream) }
 {
-    let mut bytes = io::buffer();
-    let got = libc::read(STDIN_FILENO, &mut bytes);
-    let n = io::count(got, &bytes);
-    let stream = show(s, &bytes[..n]);
-    Next {
+    let mut bytes = outside::buffer();
+    let n = outside::read_chunk(rt, &mut bytes);
+    let stream = show(rt, s, &bytes[..n])?;
+    Ok(Next {
         stream: stream,
         more: (n > 0) & (stream.refused == 0),
-    }
+    })
 }
 
 // Chunk after chunk. The loop ends with the input: 2^64 reads take longer than any machine lasts.
-fn all(first: Stream) -> Stream
+fn all(rt: &(impl Input + Print), first: Stream) -> io::Result<Stream>
     requires { Ready first }
-    ensures { Ready result }
+    ensures { IfOk result (λ r. Ready r) }
 {
     let mut s = first;
     let mut reads: u64 = 0;
     while reads < 18_446_744_073_709_551_615 {
-        let then = read_on(s);
+        let then = read_on(rt, s)?;
         s = then.stream;
         if !then.more {
             break;
         }
         reads += 1;
     }
-    s
+    Ok(s)
 }
 
-// By the program's argument EDITION. The readings are written as they come, the last line is left in the text.
-pub fn stream_input(text: &mut [u8]) -> Printed
-    ensures { IsPrefixLen result.size text.new }
+// By the program's argument EDITION. The readings are written as they come, the last line is left in the text. Where the readings cannot be
+// written, that is the answer, and the text is as it was.
+pub fn stream_input(rt: &(impl Env + Input + Print), text: &mut [u8]) -> io::Result<Printed>
+    ensures prefix_len { IfOk result (λ r. IsPrefixLen r.size text.new) }
+    ensures unchanged { OnErr result (text.new ≡ text.old) }
 {
-    let mut word = io::buffer();
-    let n = os::arg(2, &mut word);
+    let mut word = outside::buffer();
+    let n = outside::arg(rt, 2, &mut word);
     let Decimal::Number(number) = decimal::read(&word[..n]) else {
-        return Printed {
+        return Ok(Printed {
             size: text_answers::no_number_text(text, b"EDITION"),
             refused: true,
-        };
+        });
     };
     if !Edition::known(number) {
-        return Printed {
+        return Ok(Printed {
             size: no_edition_text(text),
             refused: false,
-        };
+        });
     }
-    let ended = all(live_state::start(number));
-    Printed {
+    let ended = all(rt, live_state::start(number))?;
+    Ok(Printed {
         size: end_text(text, ended),
         refused: false,
-    }
+    })
 }
