@@ -33,14 +33,14 @@ RT
     git init -q . && git add -A && git -c user.name=t -c user.email=t@t commit -qm planted
 }
 
-# expect STATUS PATTERN NAME: runs the gate here and looks at its status (0 or not) and its last line.
+# expect STATUS PATTERN NAME [SAID]: runs the gate here and looks at its status (0 or not) and its last line, and for what it must have said.
 expect() {
     local status last
     bash .ci/run >"$work/out" 2>&1
     status=$?
     last=$(tail -n 1 "$work/out")
     if { [ "$status" -eq 0 ] && [ "$1" = 0 ]; } || { [ "$status" -ne 0 ] && [ "$1" != 0 ]; }; then
-        if [[ $last =~ $2 ]]; then
+        if [[ $last =~ $2 ]] && grep -qF -- "${4-}" "$work/out"; then
             echo "ok gate: $3"
             return
         fi
@@ -57,24 +57,24 @@ expect 0 '^4 passed, 0 failed$' 'a sound repository passes, every crate, edit, p
 plant
 sed -i 's/{ 1 }/{ 0 }/' crates/bits/src/lib.rt
 rm -r crates/bits/must-fail
-expect 1 "$red" 'a crate that is not proved'
+expect 1 "$red" 'a crate that is not proved' 'bits NOT PROVED'
 
 plant
 mkdir -p crates/loose/src
 echo 'pub fn loose() -> u8 { 1 }' >crates/loose/src/lib.rt
-expect 1 "$red" 'a crate that crates.txt does not list'
+expect 1 "$red" 'a crate that crates.txt does not list' 'no check reads'
 
 plant
 printf 'file: src/lib.rt\nold: // A truth value\nnew: // A truth\n' >crates/bits/must-fail/never.edit
-expect 1 "$red" 'a must-fail edit that the prover accepts'
+expect 1 "$red" 'a must-fail edit that the prover accepts' 'NOT REFUSED'
 
 plant
 printf 'file: src/lib.rt\nold: { 2 }\nnew: { 0 }\n' >crates/bits/must-fail/other.edit
-expect 1 "$red" 'a must-fail edit that cannot be applied'
+expect 1 "$red" 'a must-fail edit that cannot be applied' 'gate: rt ci has bad must-fail edits'
 
 plant
 echo unsaid >crates/say/stdout
-expect 1 "$red" 'a program that writes something else'
+expect 1 "$red" 'a program that writes something else' 'is not what its file stdout has'
 
 # What follows is of the gate alone, so that something quicker stands for rt: it looks at the tree before it says anything, as rt does, which must be asked for
 # all crates, over what earlier runs left, and it ends as it is told.
