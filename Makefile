@@ -12,21 +12,21 @@ library = target/staticlib/librivandoze.a
 soname = librivandoze.so.$(firstword $(subst ., ,$(VERSION)))
 shared = target/staticlib/$(soname)
 program = target/bin/rvz
-sources = crates.txt $(shell find crates)
+sources = crates.txt $(shell find crates \( -name out -o -name must-fail \) -prune -o -type f -print)
 root = $(DESTDIR)$(PREFIX)
 
 all: $(library) $(shared) $(program)
 
 $(library): $(sources)
-	rt staticlib rivandoze
-	touch $@
+	cd crates/rivandoze && rt lib
+	install -D -m 644 crates/rivandoze/out/librivandoze.a $@
 
 $(shared): $(library)
 	$(CC64) -shared -Wl,-soname,$(soname) -Wl,--whole-archive $(library) -Wl,--no-whole-archive -o $@
 
 $(program): $(sources)
-	rt check rvz
-	touch $@
+	cd crates/rvz && rt run -- version
+	install -D -m 755 crates/rvz/out/rvz $@
 
 install: all
 	install -d "$(root)/include" "$(root)/lib/pkgconfig" "$(root)/bin" "$(root)/share/man/man1"

@@ -18,7 +18,7 @@ import sys
 # What is beyond the papers: the crate and its call.
 OURS = "sign"
 # The kit's own libraries.
-KITS = {"std", "check", "io", "libc", "os", "bytes"}
+KITS = {"std", "core", "check", "io", "libc", "os"}
 WORD = re.compile(r"[^\s(){};,λ∷\[\]]+")
 
 
@@ -103,7 +103,7 @@ class Project:
 
     def follow(self, module, name, whence):
         """One name of a module of the project."""
-        found = re.match(r"Rattle·([a-z0-9_]+?)(?:·specs|·proofs)?\.(.*)$", module)
+        found = re.match(r"Rattle\.([a-z0-9_]+)\.((?:specs|proofs)\..*)$", module)
         if not found:
             return
         crate, part = found[1], found[2]
@@ -148,6 +148,9 @@ class Project:
                 elif "." in piece and piece.split(".")[0] in file.modules:
                     head, tail = piece.split(".", 1)
                     self.follow(file.modules[head], tail.split(".")[-1], whence)
+                elif "." in piece.strip("."):
+                    # A definition of which a field is taken.
+                    self.words(file, piece.split(".", 1)[0], whence)
 
     def declare(self, crate, name):
         """A struct or an enum of the code, which the definitions take apart."""

@@ -109,7 +109,7 @@ def main():
         faults += [f"no sentence {name} {number}" for number in sorted(gaps)] if numbers.get(name) else [f"no section {name}"]
     for path in sorted(crates.glob("*/src/*.rt")):
         for name, contract in re.findall(r'^\s*pub (?:extern "C" )?fn (\w+)(.*?)\n\s*\{', path.read_text(), re.M | re.S):
-            faults += [] if "ensures {" in contract else [f"{path}: {name} has no contract on what it returns"]
+            faults += [] if re.search(r"\bensures (?:\w+ )?\{", contract) else [f"{path}: {name} has no contract on what it returns"]
     print(f"{sum(counts.values())} rows: " + ", ".join(f"{counts[word]} {told}" for word, told in SHOWN.items()))
     print("\n".join(faults), end="\n" if faults else "")
     return 1 if faults else 0

@@ -1,5 +1,5 @@
 #!/usr/bin/env bash
-# The must-fail edits by the logs that `rt ci` left of them: each is refused for what it says, at what it changes.
+# The must-fail edits by what the prover says of each wrong program, tried by itself: it is refused for what it says, at what it changes.
 set -u
 cd "$(dirname "$0")/.." || exit 2
 . check/tools.sh
@@ -8,33 +8,40 @@ trap 'rm -rf "$work"' EXIT
 need python3 python3
 failed=0
 
-python3 check/edits.py || failed=1
+if ! python3 check/edits.py lines >"$work/lines"; then
+    echo "FAIL edits: nothing is told of the edits"
+    exit 1
+fi
+python3 check/edits.py "$work/lines" || failed=1
 
-# What the script must see in a log: a function that is refused for another one alone, at a bound, at another need, for its shape, though others of its edit are
-# refused as they must be; and a log that is not there.
-# planted PATTERN SED LOG: told of it.
+# What the script must see in what is said: a function that is refused for another one alone, at a bound, at another need, at what a call asks, for its shape; one of
+# several that is proved; an edit that is none or that is not refused; and one of which nothing is said.
+# planted PATTERN NAME SED: told of it.
 planted() {
-    mkdir -p "$work/$3" && sed "$2" "target/must-fail/$3/.log" >"$work/$3/.log" && python3 check/edits.py "$work" >"$work/told"
-    grep "^FAIL edits: ${3%/*}/" "$work/told" | grep -q "$1"
+    sed "\\,^== $2\$,,/^== /{$3}" "$work/lines" >"$work/planted" && ! cmp -s "$work/lines" "$work/planted" && python3 check/edits.py "$work/planted" >"$work/told"
+    grep "^FAIL edits: $2: " "$work/told" | grep -q "$1"
 }
-must 'edits: a function that is refused for another one alone is seen' planted '/cmp_one_late: climbed is not refused by itself' \
-    's/^fn pwm::Pwm::climbed: not proved$/&; it calls `pwm::Pwm::moved`, which is not proved/' pwm/side_by_side
-must 'edits: one of several changed functions that is proved is seen' planted '/registers_crossed: write_max is not refused by itself' '/^fn pwm::Pwm::write_max: /s/no.*/proved/' pwm/side_by_side_2
-must 'edits: a refusal at a bound is seen' planted '/any_edition: .* refused at `cast-v`, not at its promise' 's/does not close `returns`/does not close `cast-v`/' edition/any_edition
-must 'edits: a refusal at another need than the promise is seen' planted '/cmp_one_late: .*climbed is refused at something else than its promise' 's/\.Post /.Pre /g' pwm/side_by_side
-must 'edits: a refusal for its shape is seen' planted '/cmp_one_late: refused for its shape' \
-    '\,/climbed/Proof.antt.*: error: ,s//&`rw`: no occurrence of it; /' pwm/side_by_side
-absent() { mkdir "$work/none" && python3 check/edits.py "$work/none" | grep -q '^FAIL edits: pwm/cs_7_off: .* is not there'; }
-must 'edits: a log that is not there is seen' absent
+must 'edits: a function that is refused for another one alone is seen' planted 'climbed is not refused by itself' pwm/cmp_one_late 's,/climbed/Proof.antt,/moved/Proof.antt,'
+must 'edits: one of several changed functions that is proved is seen' planted 'write_max is not refused by itself' pwm/registers_crossed '/^fn pwm::Pwm::write_max: /s/no.*/proved/'
+must 'edits: a refusal at a bound is seen' planted 'refused at `cast-v`, not at its promise' edition/any_edition 's/(`returns`)/(`cast-v`)/'
+must 'edits: a refusal at another need than the promise is seen' planted "climbed is refused at \`a step's need\`" pwm/cmp_one_late \
+    's/no proof of `.*/no proof of `(Rattle.pwm.proofs.Pwm.climbed.Lts.s5).asks/'
+must 'edits: a refusal at what a call asks is seen' planted "climbed is refused at \`a step's need\`" pwm/cmp_one_late "s/Proof.antt:[0-9]*:[0-9]*:/Proof.antt:$(
+    awk -F'λ c κs. ' 'NF > 1 { print NR ":" length($1) + 8; exit }' crates/pwm/proofs/Pwm/climbed/Proof.antt):/"
+must 'edits: a refusal for its shape is seen' planted 'refused for its shape' pwm/cmp_one_late 's/: error: /&`rw`: no occurrence of it; /'
+must 'edits: an edit that cannot be applied is seen' planted 'BAD EDIT' pwm/cmp_one_late 's/^refused.*/BAD EDIT: it changes nothing/'
+must 'edits: an edit that is not refused is seen' planted 'NOT REFUSED' pwm/cmp_one_late 's/^refused.*/NOT REFUSED: the crate is still proved/'
+must 'edits: one of which nothing is said is seen' planted 'nothing is told of it' pwm/cs_7_off 's/^== .*cs_7_off$/== pwm\/other/'
 
 # Beside others: a wrong program in the function of another, one that is no function's, and one of a definition.
 # crowded PATTERN LINE..: an edit of pwm with one more wrong program is told of.
 crowded() {
     local edit=crates/pwm/must-fail/side_by_side.edit
-    mkdir -p "$work/tree/crates" && cp -r crates/pwm "$work/tree/crates" && printf '%s\n' 'wrong: planted' "${@:2}" >>"$work/tree/$edit"
-    (cd "$work/tree" && python3 "$OLDPWD/check/edits.py" "$OLDPWD/target/must-fail") | grep -q "^FAIL edits: pwm/planted: $1"
+    rm -rf "$work/tree" && mkdir -p "$work/tree" && tar -c --exclude='crates/*/out' crates/pwm | tar -x -C "$work/tree" && printf '%s\n' 'wrong: planted' "${@:2}" >>"$work/tree/$edit"
+    { cat "$work/lines"; printf '== pwm/planted\nrefused, as it must be\n'; } >"$work/more"
+    (cd "$work/tree" && python3 "$OLDPWD/check/edits.py" "$work/more") | grep -q "^FAIL edits: pwm/planted: $1"
 }
 must 'edits: two wrong programs in one function are seen' crowded 'climbed is changed by cmp_one_late too' 'file: src/lib.rt' 'old: (self.registers.cmp <= k)' 'new: true'
 must 'edits: a constant beside others is seen' crowded 'beside others it must be of code, in a function' 'file: src/lib.rt' 'old: // ' 'new: //'
-must 'edits: a definition beside others is seen' crowded 'beside others it must be of code, in a function' 'file: specs/Pwm.antt' 'old: ltb (g .max) counter' 'new: true'
+must 'edits: a definition beside others is seen' crowded 'beside others it must be of code, in a function' 'file: specs/Pwm.antt' 'old: nat_lt g.max counter' 'new: true'
 exit $failed

@@ -9,16 +9,20 @@ trap 'rm -rf "$work"' EXIT
 # A repository of one library and one program, which passes.
 plant() {
     rm -rf "$work/repo"
-    mkdir -p "$work/repo/crates/say/src" "$work/repo/tests"
+    mkdir -p "$work/repo/crates/say/src" "$work/repo/crates/bits" "$work/repo/tests"
     cp -r "$here/.ci" "$work/repo/.ci"
-    cp -r "$here/crates/bits" "$work/repo/crates/bits"
+    cp -r "$here"/crates/bits/{src,specs} "$work/repo/crates/bits"
     cd "$work/repo" || exit 1
-    printf 'bits:\nsay: io libc\n' >crates.txt
+    printf 'bits:\nsay:\n' >crates.txt
     cat >crates/say/src/main.rt <<'RT'
-use libc::STDOUT_FILENO;
+// Says one word.
+#![tactic(auto)]
 
-fn main() {
-    io::write_all(STDOUT_FILENO, b"said\n");
+use std::io;
+
+fn main(rt: HostRuntime) -> io::Result<()> {
+    println!(rt; "said")?;
+    Ok(())
 }
 RT
     echo said >crates/say/stdout
@@ -65,14 +69,28 @@ printf 'file: src/lib.rt\nold: // A truth value\nnew: // A truth\n' >crates/bits
 expect 1 "$red" 'a must-fail edit that the prover accepts'
 
 plant
+printf 'file: src/lib.rt\nold: { 2 }\nnew: { 0 }\n' >crates/bits/must-fail/other.edit
+expect 1 "$red" 'a must-fail edit that cannot be applied'
+
+plant
 echo unsaid >crates/say/stdout
 expect 1 "$red" 'a program that writes something else'
 
-# What follows is of the gate alone, so that something quicker stands for rt: it makes target/ anew, as rt does, and ends as it is told.
-# answers TEXT STATUS
+# What follows is of the gate alone, so that something quicker stands for rt: it looks at the tree before it says anything, as rt does, which must be asked for
+# all crates, over what earlier runs left, and it ends as it is told.
+# answers TEXT STATUS [OK]: OK: its line before the last.
 answers() {
     mkdir -p "$work/bin"
-    printf '#!/bin/sh\nsleep 1\nrm -rf target\nmkdir -p target/log\nsleep 1\necho "%s"\nexit %s\n' "$1" "$2" >"$work/bin/rt"
+    cat >"$work/bin/rt" <<SH
+#!/bin/sh
+sleep 1
+[ "\$*" = ci ] && [ -e crates.txt ] && [ -e target/left ] && [ -e crates/bits/out/left ] && [ ! -e target/kept ] || exit 7
+echo looked
+sleep 1
+echo "${3-rt: ok; handles allowed: none; must-fail edits: 1 refused}"
+echo "$1"
+exit $2
+SH
     chmod +x "$work/bin/rt"
 }
 script() {
@@ -82,12 +100,21 @@ script() {
 PATH=$work/bin:$PATH
 
 plant
+mkdir -p target crates/bits/out
+: >target/left
+: >crates/bits/out/left
 answers '3 passed, 0 failed' 0
-expect 0 '^4 passed, 0 failed$' 'what rt counts and what the tests count are added'
+expect 0 '^4 passed, 0 failed$' 'what rt counts and what the tests count are added, and rt is asked for all, over the tree as it stands'
 answers '3 passed, 0 failed' 1
 expect 1 "$red" 'rt that ends badly'
+answers '3 passed, 1 failed' 0
+expect 1 "$red" 'rt that counts a failure'
 answers 'proved' 0
 expect 1 "$red" 'rt that counts nothing'
+answers '3 passed, 0 failed' 0 'rt: ok; handles allowed: none; must-fail edits: 4 refused, 1 of them only by a limit, 2 bad; every proof was done in this run'
+expect 1 "$red" 'rt that tells of bad must-fail edits'
+answers '3 passed, 0 failed' 0 'rt: say and the crates below passed'
+expect 1 "$red" 'rt that does not say that all is well'
 
 answers '3 passed, 0 failed' 0
 script planted 'echo FAIL planted; exit 1'
@@ -102,8 +129,8 @@ expect 1 "$red" 'a test beside others that ends badly'
 rm tests/slow.sh
 
 script reading 'echo ok reading; : >target/kept'
-script planted '[ -e target/kept ] && echo ok planted'
-expect 0 '^5 passed, 0 failed$' 'a test beside the proofs begins once target/ is made anew, and is counted'
+script planted '[ -e target/kept ] && rm target/kept && echo ok planted'
+expect 0 '^5 passed, 0 failed$' 'a test beside the proofs begins once rt has looked at the tree, and is counted'
 script reading 'sleep 2; echo FAIL reading'
 script planted 'echo ok planted'
 expect 1 "$red" 'a test beside the proofs that fails'

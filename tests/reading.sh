@@ -31,21 +31,21 @@ sed 's/^/    /' "$work/out"
 
 # What the scripts must see: a contract that rests on a How, and a name that is nowhere; in the rows a name, a theorem, a test and a sentence that
 # are not there, and a function that promises nothing.
-cp -r --parents crates check docs tests include "$work"
+tar -c --exclude='crates/*/out' crates check docs tests include | tar -x -C "$work"
 # planted PATTERN SED FILE [SCRIPT]: the script tells of it.
 planted() {
     sed -i "$2" "$work/$3" && ! (cd "$work" && python3 "${4:-check/reading.py}") | grep -q "$1" && return 1
     cp "$3" "$work/$3"
 }
 must 'reading: a definition of How.antt is seen' planted 'rests on how the code gets there' \
-    's/^playOf e rs room = .*/playOf e rs room = refusalOf/; s/^use Rattle·banks.specs.State.{fresh}/&\nuse Rattle·refusals.specs.How.{refusalOf}/' crates/replay/specs/Replay.antt
+    's/^play_of e rs room = .*/play_of e rs room = refusal_of/; s/^use Rattle.banks.specs.State.{fresh}/&\nuse Rattle.refusals.specs.How.{refusal_of}/' crates/replay/specs/Replay.antt
 must 'reading: a name that is nowhere is seen' planted 'not found' \
-    's/use Rattle·replay.specs.Replay.{replayOf}/use Rattle·replay.specs.Replay.{replayOf, nowhere}/; s/≡ written (replayOf/≡ nowhere (replayOf/' crates/rivandoze/src/logs.rt
+    's/use Rattle.replay.specs.Replay.{replay_of}/use Rattle.replay.specs.Replay.{replay_of, nowhere}/; s/≡ written (replay_of/≡ nowhere (replay_of/' crates/rivandoze/src/logs.rt
 rows=check/rows.py
-must 'reading: a row with a wrong name is seen' planted 'not found: onPin$' 's/`onPins`/`onPin`/' docs/READING.md $rows
+must 'reading: a row with a wrong name is seen' planted 'not found: on_pin$' 's/`on_pins`/`on_pin`/' docs/READING.md $rows
 must 'reading: a row whose definition is gone is seen' planted 'not found: place$' 's/^abbrev pub place :/abbrev pub moved :/' crates/encoder_pins/specs/Pins.antt $rows
 must 'reading: a row whose theorem is not proved is seen' planted 'Encoders is not proved' 's/^pub encoders : Encoders/pub encoders : Type 0/' crates/encoder/proofs/Proved.antt $rows
 must 'reading: a row whose test is gone is seen' planted 'tests/program.sh has no seven bytes' 's/seven bytes/7 bytes/' tests/program.sh $rows
 must 'reading: a sentence without a row is seen' planted 'no sentence 01 pwm 6' '/^| 6 | writing CS/d' docs/READING.md $rows
-must 'reading: a public function without a contract is seen' planted 'fresh has no contract' '/^    ensures { λ r. ⌜ r ≡ fresh ⌝ }/d' crates/bank/src/lib.rt $rows
+must 'reading: a public function without a contract is seen' planted 'fresh has no contract' '/^    ensures { result ≡ fresh }/d' crates/bank/src/lib.rt $rows
 exit $failed

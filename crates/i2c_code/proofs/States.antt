@@ -1,6 +1,6 @@
 -- The states by number: a byte can follow the last one in 1 to send, in 2 to receive. Where a code is allowed, by that.
 -- Assumes nothing.
-use mathlib.Core.Path.{◌≡◌, sym, ap, ◌∙◌}
+use mathlib.Core.Path.{◌≡◌, ap}
 use mathlib.Core.Bool.{Bool, true, false, not, cond, ◌&&◌, ◌||◌}
 use Prim.Native.Nat.{ℕ}
 use lib.Dec.{ltb, eqb}

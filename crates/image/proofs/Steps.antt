@@ -1,13 +1,12 @@
 -- The loops of the code: what each has done after i turns.
 -- Assumes nothing.
 use mathlib.Core.Path.{◌≡◌, refl, sym, ap, ◌∙◌}
-use mathlib.Core.List.{List, [], ◌∷◌, ◌++◌, map, append-nil, append_assoc}
+use mathlib.Core.List.{List, [], ◌∷◌, ◌++◌, append-nil, append_assoc}
 use Prim.Native.Nat.{ℕ, ◌+◌, ◌*◌, ◌≤◌, ◌<◌}
 use native.Mathlib.Omega.{arith}
 use lib.ListN.{length, get_or, set, take}
 use native.Mathlib.Numerals.{add-one}
 use lib.Seq.{sets, length-sets, length-take-le, take-suc, take_all}
-use Rattle.laws.proofs.Each.{long_field}
 use Rattle.numbers.specs.Bytes.{byte, le_of, le_bytes}
 use Rattle.codec.specs.How.{save_word, load_word, save_many, load_many}
 use Rattle.codec.proofs.Loops.{loaded, loaded_none, loaded_more, loaded_all, saved, saved_none, saved_more, saved_all, sets_append}

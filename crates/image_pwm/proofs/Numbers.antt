@@ -10,7 +10,6 @@ use borrow.Author.Tests.{ltb-true, ltb-false, leb-true, leb-false, eq-eqb, ne_eq
 use Rattle.laws.proofs.Truth.{both_true}
 use Rattle.laws.proofs.Table.{at}
 use Rattle.divider.specs.Divider.{divider_of}
-use Rattle.bits.specs.Bits.{bit}
 use Rattle.records.specs.Record.{pwm_cnfg}
 use Rattle.image_pwm.specs.How.{registers_of, wave_of, pwm_of, is_registers, is_short, is_quick}
 

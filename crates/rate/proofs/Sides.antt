@@ -1,8 +1,8 @@
 -- A bracket has the two counts next to the wanted rate, and every pair lies on the far side of one of them. Assumes nothing.
-use mathlib.Core.Path.{◌≡◌, refl, ap, ◌∙◌}
+use mathlib.Core.Path.{◌≡◌}
 use mathlib.Core.Bool.{cond}
-use Prim.Native.Nat.{ℕ, zero, suc, ◌+◌, ◌-◌, ◌*◌, ◌/◌, ◌^◌, ◌≤◌, ◌<◌}
-use native.Mathlib.Nat.{le_refl, mul-pos, mul-le-mul_left, mul-le-mul_right, mul-lt-mul_of_pos_left, eq_of_mul-eq-mul_left, le-div_iff_mul-le, div-lt_iff_lt-mul}
+use Prim.Native.Nat.{ℕ, zero, suc, ◌+◌, ◌-◌, ◌*◌, ◌^◌, ◌≤◌, ◌<◌}
+use native.Mathlib.Nat.{mul-pos, mul-le-mul_left, mul-le-mul_right, mul-lt-mul_of_pos_left, eq_of_mul-eq-mul_left}
 use native.Mathlib.Omega.{arith}
 use native.Mathlib.Decide.{dec_le}
 use lib.Dec.{ltb}
@@ -12,7 +12,7 @@ use Rattle.rate_counts.specs.declared.Bracket.{Bracket}
 use Rattle.rate.specs.Rate.{apart, IsPair, AsGood}
 use Rattle.rate_counts.specs.How.{Fit, Brackets, coarser_of, short, over}
 use Rattle.rate_counts.proofs.Around.{more, coarser_brackets}
-use Rattle.rate_counts.proofs.Dividers.{some, most, grow, times, twice, next}
+use Rattle.rate_counts.proofs.Dividers.{some, grow, times, twice}
 use Rattle.rate.proofs.Order.{trans, longer, shorter}
 
 -- the next bracket, coarser until the count is short enough, at most i times

@@ -10,7 +10,7 @@ ghost use Rattle.dump.specs.Dump.{dump_text};
 ghost use Rattle.dump_read.specs.Reading.{Answer};
 ghost use Rattle.shrink.specs.Shrink.{smaller_of};
 ghost use Rattle.sign.specs.Sign.{sign_of, sign_output};
-ghost use Rattle.writer.specs.Writer.{written_of, output_of as write-output};
+ghost use Rattle.writer.specs.Writer.{written_of, output_of as write_output};
 ghost use Rattle.live_state.specs.Live.{chunk_of, end_of};
 ghost use Rattle.image_state.specs.Image.{image_of};
 ghost use Rattle.stream.specs.Stream.{start_of, started_in, On};
@@ -71,7 +71,7 @@ pub extern "C" fn rvz_sign(log: &[u8], out: &mut [u8]) -> u64
 #[unsafe(no_mangle)]
 pub extern "C" fn rvz_write(edition: u64, notes: &[u8], records: &[u8], out: &mut [u8]) -> u64
     ensures word { Word (written_of edition notes.now records.now (length out.old)).refused ((written_of edition notes.now records.now (length out.old)).number % 2 ^ 56) result }
-    ensures out_after { out.new ≡ write-output edition notes.now records.now out.old }
+    ensures out_after { out.new ≡ write_output edition notes.now records.now out.old }
 {
     let w = writer::write(edition, notes, records, out);
     word(w.refused, w.number % 72_057_594_037_927_936)

@@ -1,6 +1,6 @@
 -- Where a record's reading stands in the transcripts, plain and negated.
 -- Assumes nothing.
-use Rattle.std.proofs.Common.{◌≡◌, ℕ, ◌+◌, ◌*◌, ◌^◌, ◌<◌, Bool, true, false, cond, List, [], ◌∷◌, ◌++◌, length, sym, refl, ap, ◌∙◌, arith, length-append}
+use Rattle.std.proofs.Common.{◌≡◌, ℕ, ◌*◌, ◌^◌, ◌<◌, Bool, true, false, cond, List, [], ◌∷◌, ◌++◌, length, sym, refl, ap, ◌∙◌, arith, length-append}
 use mathlib.Core.Bool.{false≢true}
 use lib.ListN.{length-map}
 use Rattle.fold.specs.Turn.{Turn, goes, reads, refused, retell, applies, answers, leaves, given}

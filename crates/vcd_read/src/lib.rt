@@ -3,14 +3,14 @@
 
 ghost use Rattle.std.specs.Prelude.{◌≡◌, ◌≤◌, length, drop};
 ghost use Rattle.decimal.specs.Decimal.{decimal_of};
-ghost use Rattle.vcd.specs.How.{same as sameBytes, wire_of, var_with, head_of, number_of, time_of, value_of, change_in, line_of};
+ghost use Rattle.vcd.specs.How.{same as same_bytes, wire_of, var_with, head_of, number_of, time_of, value_of, change_in, line_of};
 ghost use Rattle.vcd_read.specs.Bounds.{Bounded};
 
 use decimal::Decimal;
 use vcd::Line;
 
 fn same(a: &[u8], b: &[u8]) -> bool
-    ensures { result ≡ sameBytes a.now b.now }
+    ensures { result ≡ same_bytes a.now b.now }
 {
     if a.len() != b.len() {
         return false;

@@ -2,13 +2,13 @@
 #![tactic(auto)]
 
 ghost use Rattle.std.specs.Prelude.{◌≡◌, cond, ◌&&◌, ◌+◌, ◌<◌, eqb};
-ghost use Rattle.vcd.specs.How.{refused as refusedOf, follows as followsOf, fixed_turn, var_turn, unknown_turn, time_turn, pin_of, taken as taken_of, pinned as pinned_of, change_turn, turn_of, opening as openingOf, whole as whole_of};
+ghost use Rattle.vcd.specs.How.{refused as refused_of, follows as follows_of, fixed_turn, var_turn, unknown_turn, time_turn, pin_of, taken as taken_of, pinned as pinned_of, change_turn, turn_of, opening as opening_of, whole as whole_of};
 ghost use Rattle.vcd_read.specs.Bounds.{Bounded};
 
 use vcd::{Line, Reader};
 
 pub fn opening() -> Reader
-    ensures { result ≡ openingOf }
+    ensures { result ≡ opening_of }
 {
     Reader {
         phase: 0,
@@ -34,13 +34,13 @@ fn moved(r: Reader, phase: u8, awaited: usize) -> Reader
 }
 
 fn refused(r: Reader) -> Reader
-    ensures { result ≡ refusedOf r }
+    ensures { result ≡ refused_of r }
 {
     moved(r, 9, r.awaited)
 }
 
 fn follows(awaited: usize, wire: usize) -> bool
-    ensures { result ≡ followsOf awaited wire }
+    ensures { result ≡ follows_of awaited wire }
 {
     if awaited % 2 == 1 {
         return wire == awaited;
@@ -187,7 +187,7 @@ pub fn next(r: Reader, l: Line) -> Reader
 
 // The end of a text that is cut into lines, or of one that has more behind its last newline, which is no line.
 pub fn ended(r: Reader, cut: bool) -> Reader
-    ensures { result ≡ cond cut r (refusedOf r) }
+    ensures { result ≡ cond cut r (refused_of r) }
 {
     if cut {
         return r;

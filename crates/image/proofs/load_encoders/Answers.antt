@@ -1,6 +1,5 @@
 use mathlib.Core.Path.{◌≡◌}
-use Prim.Native.Nat.{◌≤◌, ◌-◌}
-use Rattle.image.proofs.Steps.{encoders_to, encoders_none, encoders_next, encoders_all}
+use Rattle.image.proofs.Steps.{encoders_none, encoders_next, encoders_all}
 use lib.ListN.{length}
 use Rattle.laws.proofs.Each.{long_field}
 use borrow.Author.Rules.{rules}

@@ -1,7 +1,6 @@
 use mathlib.Core.Path.{◌≡◌}
 use Prim.Native.Nat.{◌≤◌, ◌-◌}
-use Rattle.image.proofs.Steps.{encoders_to, encoders_none, encoders_next, encoders_all}
-use borrow.Author.Rules.{rules}
+use Rattle.image.proofs.Steps.{encoders_to}
 use Rattle.image.proofs.load_encoders.Given as goal
 
 abbrev pub invariant-loop-i : goal.invariant-loop-i

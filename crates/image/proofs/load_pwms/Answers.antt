@@ -1,6 +1,5 @@
 use mathlib.Core.Path.{◌≡◌}
-use Prim.Native.Nat.{◌≤◌, ◌-◌}
-use Rattle.image.proofs.Steps.{pwms_to, pwms_none, pwms_next, pwms_all}
+use Rattle.image.proofs.Steps.{pwms_none, pwms_next, pwms_all}
 use lib.ListN.{length}
 use Rattle.laws.proofs.Each.{long_field}
 use borrow.Author.Rules.{rules}

@@ -1,7 +1,6 @@
 use mathlib.Core.Path.{◌≡◌}
 use Prim.Native.Nat.{◌≤◌, ◌-◌}
-use Rattle.image.proofs.Steps.{pwms_to, pwms_none, pwms_next, pwms_all}
-use borrow.Author.Rules.{rules}
+use Rattle.image.proofs.Steps.{pwms_to}
 use Rattle.image.proofs.load_pwms.Given as goal
 
 abbrev pub invariant-loop-i : goal.invariant-loop-i

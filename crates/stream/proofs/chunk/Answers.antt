@@ -1,7 +1,6 @@
 -- `stream::chunk` meets its contract. Assumes nothing.
 use mathlib.Core.Path.{refl}
 use mathlib.Core.Logic.{inr}
-use borrow.Author.Rules.{rules}
 use Rattle.stream.proofs.Ways.{is_state_lem, has_size, saves, tells, keeps, output, nothing}
 use Rattle.stream.proofs.chunk.Goals as goal
 

@@ -1,7 +1,6 @@
 -- `stream::end` meets its contract. Assumes nothing.
 use mathlib.Core.Path.{refl}
 use mathlib.Core.Logic.{inr}
-use borrow.Author.Rules.{rules}
 use Rattle.stream.proofs.Ways.{is_state_lem, ends, nothing}
 use Rattle.stream.proofs.end.Goals as goal
 

@@ -1,6 +1,5 @@
 -- `vcd_header::header` meets its contract. Assumes nothing.
 use Rattle.vcd.specs.Lines as lines
-use borrow.Author.Rules.{rules}
 use Rattle.vcd_header.proofs.Wires.{header_put}
 use Rattle.vcd_header.proofs.header.Goals as goal
 

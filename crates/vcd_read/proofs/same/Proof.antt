@@ -3,14 +3,14 @@ use native.Mathlib.Omega.{arith}
 use mathlib.Core.Path.{◌≡◌, refl}
 use Prim.Native.Nat.{◌-◌, ◌≤◌}
 use lib.ListN.{length, drop}
-use Rattle.vcd.specs.How.{same as sameBytes}
+use Rattle.vcd.specs.How.{same as same_bytes}
 use borrow.Author.Rules.{rules}
 use Rattle.vcd_read.proofs.Laws.{same_off, same_differ, same_next, same_done}
 use Rattle.vcd_read.proofs.same.Statement.{statement}
 use Rattle.vcd_read.proofs.same.Tie as tie
 
 abbrev invariant-loop : tie.invariant-loop-i
-invariant-loop a b i₀ i = (i ≤ length a) × (length a ≡ length b) × (sameBytes a b ≡ sameBytes (drop i a) (drop i b))
+invariant-loop a b i₀ i = (i ≤ length a) × (length a ≡ length b) × (same_bytes a b ≡ same_bytes (drop i a) (drop i b))
 
 abbrev decreases-loop : tie.decreases-loop-i
 decreases-loop a b i₀ i = length a - i
