@@ -1,5 +1,5 @@
 -- The whole text: what stands in it before each entry, and at the end. Assumes nothing.
-use Rattle.std.proofs.Common.{◌≡◌, ℕ, ◌+◌, ◌-◌, ◌*◌, ◌^◌, ◌<◌, ◌≤◌, true, leb, List, [], ◌∷◌, ◌++◌, map, length, take, sym, refl, ap, ◌∙◌, arith, length-append, length-take-le, take_all, le-leb}
+use Rattle.std.proofs.Common.{◌≡◌, ℕ, ◌+◌, ◌*◌, ◌^◌, ◌<◌, ◌≤◌, true, leb, List, [], ◌∷◌, ◌++◌, map, length, take, sym, refl, ap, ◌∙◌, arith, length-append, length-take-le, take_all, le-leb}
 use mathlib.Core.List.{flatten}
 use Rattle.decimal.specs.Ascii.{ascii}
 use Rattle.outside.specs.Counts.{IsPrefixLen}

@@ -1,5 +1,4 @@
 -- `command::alone` meets its contract. Assumes nothing.
-use borrow.Author.Rules.{rules}
 use Rattle.rate_print.proofs.Says.{asks, asks_else}
 use Rattle.command.specs.Asked.{alone_of}
 use Rattle.command.proofs.alone.Goals as goal

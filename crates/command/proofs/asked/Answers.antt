@@ -1,5 +1,4 @@
 -- `command::asked` meets its contract. Assumes nothing.
-use borrow.Author.Rules.{rules}
 use Rattle.laws.proofs.Cases.{cases, taken, left}
 use Rattle.rate_print.proofs.Says.{asks, asks_else}
 use Rattle.command.specs.Asked.{command_of}

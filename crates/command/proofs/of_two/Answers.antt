@@ -1,5 +1,4 @@
 -- `command::of_two` meets its contract. Assumes nothing.
-use borrow.Author.Rules.{rules}
 use Rattle.rate_print.proofs.Says.{asks, asks_else}
 use Rattle.command.specs.Asked.{of_two}
 use Rattle.command.proofs.of_two.Goals as goal

@@ -1,5 +1,4 @@
 -- `rate_print::asked` meets its contract. Assumes nothing.
-use borrow.Author.Rules.{rules}
 use Rattle.rate_print.proofs.Says.{asks, asks_else}
 use Rattle.rate_print.specs.Said.{question_of}
 use Rattle.rate_print.proofs.asked.Goals as goal

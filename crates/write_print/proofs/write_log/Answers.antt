@@ -1,5 +1,4 @@
 -- `write_print::write_log` meets its contract. Assumes nothing.
-use borrow.Author.Rules.{rules}
 use Rattle.write_print.proofs.Prints.{no_number_printed, number_printed}
 use Rattle.write_print.proofs.write_log.Goals as goal
 
