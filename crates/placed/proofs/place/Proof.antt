@@ -11,6 +11,6 @@ place_spec =
     (tie.spec
     (λ c κs. search rules)
     (λ c. search rules)
-    (λ c. (refused_arm _ _ _ _ _ _ c.before.refusal-number.ensures (λ none. search (arith, rules)), search inside_refused))
+    (λ c. (refused_arm _ _ _ _ _ _ c.before.refusal-number.ensures (λ none. omega (arith, none)), search inside_refused))
     (λ c κs. search rules)
     (λ c. (search passed_arm, search rules)))
