@@ -12,9 +12,9 @@ Of several, each is of code, in a function that no other of them changes.
 
 Where a wrong program changes code, each function that holds a changed line must be refused by itself, not since it calls one that is; of a table
 or a constant, some function. What the prover could not prove of it must be that the promise holds at a return; in a function with a loop it may
-be the invariant, and any answer of a proof that walks the code, where the script cannot tell them apart: read `edits.py lines`. Where it changes a definition, a law, a
-theorem or a function must be refused. What the prover says first must not be one of the phrases below. Prints `ok` or `FAIL` for each wrong program; status
-1 where one fails.
+be the invariant or a bound. In a proof that walks the code, a `Proof.antt`, the goal is known where `search` prints it; an answer by `rw` or `omega`, or one written
+out, is taken for the promise's: read `edits.py lines`. Where it changes a definition, a law, a theorem or a function must be refused. What the prover says
+first must not be one of the phrases below. Prints `ok` or `FAIL` for each wrong program; status 1 where one fails.
 """
 import collections
 import pathlib
