@@ -1,8 +1,8 @@
 // What the program is given from outside: its arguments, standard input, a file. What comes no contract can say: the functions here promise how
-// many bytes there are, and no more. What cannot be read is the end, as what has ended is, and no error.
+// many bytes or words there are at most, and no more. What cannot be read is the end, as what has ended is, and no error.
 #![tactic(auto)]
 
-ghost use Rattle.std.specs.Prelude.{◌≡◌, length, IfSome};
+ghost use Rattle.std.specs.Prelude.{◌≡◌, ◌≤◌, length, IfSome};
 ghost use Rattle.outside.specs.Counts.{IsPrefixLen};
 
 use std::env::FillError;
@@ -32,14 +32,19 @@ fn is_missing(rt: &impl Env, i: usize) -> bool {
     matches!(rt.arg(i, &mut buf), Err(FillError::NotPresent))
 }
 
-// How many arguments there are, the program's own name among them.
-pub fn arg_count(rt: &impl Env) -> usize {
-    for i in 0..usize::MAX {
+// No command has more than four words, the program's own name among them: a fifth shows that there are too many.
+pub const MOST_WORDS: usize = 5;
+
+// How many arguments there are, the program's own name among them, or `MOST_WORDS` where there are more.
+pub fn arg_count(rt: &impl Env) -> usize
+    ensures { result ≤ MOST_WORDS }
+{
+    for i in 0..MOST_WORDS {
         if is_missing(rt, i) {
             return i;
         }
     }
-    usize::MAX
+    MOST_WORDS
 }
 
 // What a read gives: no byte at the end, nor where it fails.

@@ -1,8 +1,7 @@
-// With no argument it replays the log on standard input; the first argument asks for something else. It has no exit status to give, so all it
-// has to say goes to standard output, but for the refusal of a dump, of a smaller log or of records: built in one buffer by a crate for
-// each command, every byte promised, and written at once; the readings of a stream are written before, as they come. What is read and
-// written no contract can say: the functions here promise how many bytes there are, and no more. A write that fails ends the program with
-// its error.
+// With no argument it replays the log on standard input; the first argument asks for something else. Its exit status tells a write that failed
+// and nothing else, so all it has to say goes to standard output, but for the refusal of a dump, of a smaller log or of records: built in one
+// buffer by a crate for each command, every byte promised, and written at once; the readings of a stream are written before, as they come.
+// What is read and written no contract can say: the functions here promise how many bytes there are, and no more.
 #![tactic(auto)]
 
 ghost use Rattle.std.specs.Prelude.{◌≡◌, false, ◌≤◌, length, IfOk, OnErr};
