@@ -34,7 +34,7 @@ waits only, 40 PWM channels|1650|1610
 reads, judged|80|82|$judged
 a mix, waits to 20 ticks, judged|100|101|$judged
 the finder, a request|80|98
-pins, changing bank, dumped|150|164|$dumped
+pins, changing bank, dumped|150|162|$dumped
 a mix over both banks, dumped|130|152|$dumped
 pins, changing bank, signed|135|123|$signed
 a mix over both banks, signed|125|135|$signed
