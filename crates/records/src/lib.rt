@@ -2,7 +2,9 @@
 #![tactic(auto)]
 
 ghost use Rattle.std.specs.Prelude.{◌≡◌, cond};
-ghost use Rattle.records.specs.Record.{fitting, select_range, pwm_cnfg, pwm_range, i2c_range, write_of, read_of, pins_of, ticks_of, answer_of, named_of, refusal_of};
+ghost use Rattle.records.specs.Record.{fitting, select_range, pwm_cnfg, pwm_range, i2c_range, write_of, read_of, pins_of, ticks_of, answer_of, named_of};
+
+use refused::Refusal;
 
 // What a record names: its access with its channel, its register and its value, in this order, where it has them. Registers have the
 // paper's numbers. Each number is 64 bits wide, so that the variants lie alike and none has to be kept in memory.
@@ -19,13 +21,6 @@ pub enum Record {
     ReadI2c(u64),
     Pins(usize, u64),
     Ticks(u64),
-}
-
-// A record, or its refusal, 7 or 8.
-#[derive(Clone, Copy)]
-pub enum Decoded {
-    Names(Record),
-    Refused(u8),
 }
 
 // ---- the values that a register takes
@@ -71,50 +66,50 @@ pub fn select_range(port: bool, v: u64) -> bool
 
 // ---- the kinds
 
-fn fitting(fits: bool, r: Record) -> Decoded
+fn fitting(fits: bool, r: Record) -> Result<Record, Refusal>
     ensures { result ≡ fitting fits r }
 {
     if fits {
-        return Decoded::Names(r);
+        return Ok(r);
     }
-    Decoded::Refused(8)
+    Err(Refusal::ValueOutOfRange)
 }
 
-fn select_write(port: bool, channel: u8, register: u8, v: u64) -> Decoded
+fn select_write(port: bool, channel: u8, register: u8, v: u64) -> Result<Record, Refusal>
     ensures { result ≡ write_of port 0 channel register v }
 {
     if channel != 0 {
-        return Decoded::Refused(7);
+        return Err(Refusal::NoSuchRecord);
     }
     if register != 0 {
-        return Decoded::Refused(7);
+        return Err(Refusal::NoSuchRecord);
     }
     fitting(select_range(port, v), Record::WriteSelect(v))
 }
 
-fn encoder_write(port: bool, channel: u8, register: u8, v: u64) -> Decoded
+fn encoder_write(port: bool, channel: u8, register: u8, v: u64) -> Result<Record, Refusal>
     ensures { result ≡ write_of port 1 channel register v }
 {
     if channel >= 10 {
-        return Decoded::Refused(7);
+        return Err(Refusal::NoSuchRecord);
     }
     if register != 0 {
-        return Decoded::Refused(7);
+        return Err(Refusal::NoSuchRecord);
     }
     if v >= 32 {
-        return Decoded::Refused(8);
+        return Err(Refusal::ValueOutOfRange);
     }
-    Decoded::Names(Record::WriteEncoder(channel as usize, v))
+    Ok(Record::WriteEncoder(channel as usize, v))
 }
 
-fn pwm_write(port: bool, channel: u8, register: u8, v: u64) -> Decoded
+fn pwm_write(port: bool, channel: u8, register: u8, v: u64) -> Result<Record, Refusal>
     ensures { result ≡ write_of port 2 channel register v }
 {
     if channel >= 20 {
-        return Decoded::Refused(7);
+        return Err(Refusal::NoSuchRecord);
     }
     if register >= 4 {
-        return Decoded::Refused(7);
+        return Err(Refusal::NoSuchRecord);
     }
     fitting(
         pwm_range(register, v),
@@ -122,19 +117,19 @@ fn pwm_write(port: bool, channel: u8, register: u8, v: u64) -> Decoded
     )
 }
 
-fn i2c_write(port: bool, channel: u8, register: u8, v: u64) -> Decoded
+fn i2c_write(port: bool, channel: u8, register: u8, v: u64) -> Result<Record, Refusal>
     ensures { result ≡ write_of port 3 channel register v }
 {
     if channel != 0 {
-        return Decoded::Refused(7);
+        return Err(Refusal::NoSuchRecord);
     }
     if register >= 3 {
-        return Decoded::Refused(7);
+        return Err(Refusal::NoSuchRecord);
     }
     fitting(i2c_range(register, v), Record::WriteI2c(register as u64, v))
 }
 
-fn write(port: bool, block: u8, channel: u8, register: u8, v: u64) -> Decoded
+fn write(port: bool, block: u8, channel: u8, register: u8, v: u64) -> Result<Record, Refusal>
     ensures { result ≡ write_of port block channel register v }
 {
     if block == 0 {
@@ -149,43 +144,43 @@ fn write(port: bool, block: u8, channel: u8, register: u8, v: u64) -> Decoded
     if block == 3 {
         return i2c_write(port, channel, register, v);
     }
-    Decoded::Refused(7)
+    Err(Refusal::NoSuchRecord)
 }
 
-fn select_read(answers: bool, channel: u8, register: u8) -> Decoded
+fn select_read(answers: bool, channel: u8, register: u8) -> Result<Record, Refusal>
     ensures { result ≡ read_of answers 0 channel register }
 {
     if channel != 0 {
-        return Decoded::Refused(7);
+        return Err(Refusal::NoSuchRecord);
     }
     if register != 0 {
-        return Decoded::Refused(7);
+        return Err(Refusal::NoSuchRecord);
     }
-    Decoded::Names(Record::ReadSelect)
+    Ok(Record::ReadSelect)
 }
 
-fn encoder_read(answers: bool, channel: u8, register: u8) -> Decoded
+fn encoder_read(answers: bool, channel: u8, register: u8) -> Result<Record, Refusal>
     ensures { result ≡ read_of answers 1 channel register }
 {
     if channel >= 10 {
-        return Decoded::Refused(7);
+        return Err(Refusal::NoSuchRecord);
     }
     if register >= 3 {
-        return Decoded::Refused(7);
+        return Err(Refusal::NoSuchRecord);
     }
-    Decoded::Names(Record::ReadEncoder(channel as usize, register as u64))
+    Ok(Record::ReadEncoder(channel as usize, register as u64))
 }
 
-fn pwm_read(answers: bool, channel: u8, register: u8) -> Decoded
+fn pwm_read(answers: bool, channel: u8, register: u8) -> Result<Record, Refusal>
     ensures { result ≡ read_of answers 2 channel register }
 {
     if channel >= 20 {
-        return Decoded::Refused(7);
+        return Err(Refusal::NoSuchRecord);
     }
     if register >= 6 {
-        return Decoded::Refused(7);
+        return Err(Refusal::NoSuchRecord);
     }
-    Decoded::Names(Record::ReadPwm(channel as usize, register as u64))
+    Ok(Record::ReadPwm(channel as usize, register as u64))
 }
 
 pub fn i2c_registers(answers: bool) -> u8
@@ -194,22 +189,22 @@ pub fn i2c_registers(answers: bool) -> u8
     if answers { 5 } else { 4 }
 }
 
-fn i2c_read(answers: bool, channel: u8, register: u8) -> Decoded
+fn i2c_read(answers: bool, channel: u8, register: u8) -> Result<Record, Refusal>
     ensures { result ≡ read_of answers 3 channel register }
 {
     if channel != 0 {
-        return Decoded::Refused(7);
+        return Err(Refusal::NoSuchRecord);
     }
     if register == 2 {
-        return Decoded::Refused(7);
+        return Err(Refusal::NoSuchRecord);
     }
     if register >= i2c_registers(answers) {
-        return Decoded::Refused(7);
+        return Err(Refusal::NoSuchRecord);
     }
-    Decoded::Names(Record::ReadI2c(register as u64))
+    Ok(Record::ReadI2c(register as u64))
 }
 
-fn read(answers: bool, block: u8, channel: u8, register: u8) -> Decoded
+fn read(answers: bool, block: u8, channel: u8, register: u8) -> Result<Record, Refusal>
     ensures { result ≡ read_of answers block channel register }
 {
     if block == 0 {
@@ -224,64 +219,64 @@ fn read(answers: bool, block: u8, channel: u8, register: u8) -> Decoded
     if block == 3 {
         return i2c_read(answers, channel, register);
     }
-    Decoded::Refused(7)
+    Err(Refusal::NoSuchRecord)
 }
 
-fn pins(block: u8, channel: u8, register: u8, v: u64) -> Decoded
+fn pins(block: u8, channel: u8, register: u8, v: u64) -> Result<Record, Refusal>
     ensures { result ≡ pins_of block channel register v }
 {
     if block != 1 {
-        return Decoded::Refused(7);
+        return Err(Refusal::NoSuchRecord);
     }
     if channel >= 10 {
-        return Decoded::Refused(7);
+        return Err(Refusal::NoSuchRecord);
     }
     if register != 0 {
-        return Decoded::Refused(7);
+        return Err(Refusal::NoSuchRecord);
     }
     if v >= 4 {
-        return Decoded::Refused(8);
+        return Err(Refusal::ValueOutOfRange);
     }
-    Decoded::Names(Record::Pins(channel as usize, v))
+    Ok(Record::Pins(channel as usize, v))
 }
 
-fn ticks(block: u8, channel: u8, register: u8, bank: u64, v: u64) -> Decoded
+fn ticks(block: u8, channel: u8, register: u8, bank: u64, v: u64) -> Result<Record, Refusal>
     ensures { result ≡ ticks_of block channel register bank v }
 {
     if bank != 0 {
-        return Decoded::Refused(7);
+        return Err(Refusal::NoSuchRecord);
     }
     if block != 0 {
-        return Decoded::Refused(7);
+        return Err(Refusal::NoSuchRecord);
     }
     if channel != 0 {
-        return Decoded::Refused(7);
+        return Err(Refusal::NoSuchRecord);
     }
     if register != 0 {
-        return Decoded::Refused(7);
+        return Err(Refusal::NoSuchRecord);
     }
     if v >= 4294967296 {
-        return Decoded::Refused(8);
+        return Err(Refusal::ValueOutOfRange);
     }
-    Decoded::Names(Record::Ticks(v))
+    Ok(Record::Ticks(v))
 }
 
-fn answer(block: u8, channel: u8, register: u8, v: u64) -> Decoded
+fn answer(block: u8, channel: u8, register: u8, v: u64) -> Result<Record, Refusal>
     ensures { result ≡ answer_of block channel register v }
 {
     if block != 3 {
-        return Decoded::Refused(7);
+        return Err(Refusal::NoSuchRecord);
     }
     if channel != 0 {
-        return Decoded::Refused(7);
+        return Err(Refusal::NoSuchRecord);
     }
     if register != 0 {
-        return Decoded::Refused(7);
+        return Err(Refusal::NoSuchRecord);
     }
     if 4 <= v {
-        return Decoded::Refused(8);
+        return Err(Refusal::ValueOutOfRange);
     }
-    Decoded::Names(Record::Answer(v))
+    Ok(Record::Answer(v))
 }
 
 pub fn named(
@@ -293,7 +288,7 @@ pub fn named(
     register: u8,
     bank: u64,
     v: u64,
-) -> Decoded
+) -> Result<Record, Refusal>
     ensures { result ≡ named_of port answers kind block channel register bank v }
 {
     if kind == 1 {
@@ -301,7 +296,7 @@ pub fn named(
     }
     if kind == 2 {
         if v != 0 {
-            return Decoded::Refused(7);
+            return Err(Refusal::NoSuchRecord);
         }
         return read(answers, block, channel, register);
     }
@@ -312,20 +307,10 @@ pub fn named(
         return ticks(block, channel, register, bank, v);
     }
     if kind != 5 {
-        return Decoded::Refused(7);
+        return Err(Refusal::NoSuchRecord);
     }
     if answers {
         return answer(block, channel, register, v);
     }
-    Decoded::Refused(7)
-}
-
-// The number of a refused record; 0 of one that is named.
-pub fn refusal(d: Decoded) -> u8
-    ensures { result ≡ refusal_of d }
-{
-    match d {
-        Decoded::Names(_) => 0,
-        Decoded::Refused(n) => n,
-    }
+    Err(Refusal::NoSuchRecord)
 }
