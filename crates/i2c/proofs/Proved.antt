@@ -5,6 +5,8 @@ use mathlib.Core.Bool.{Bool, true, false, not, cond, ◌&&◌, and-false}
 use Prim.Native.Nat.{ℕ}
 use native.Mathlib.Omega.{arith}
 use lib.Dec.{eqb}
+use Rattle.refused.specs.declared.Refusal.{Refusal}
+use Rattle.refused.specs.declared.Refusal.TheVariants.{WrongControl, StopAfterAck}
 use Rattle.fold.specs.Turn.{Turn, goes, refused}
 use Rattle.i2c_code.specs.declared.Phase.{Phase}
 use Rattle.i2c.specs.declared.I2c.{I2c}
@@ -16,7 +18,7 @@ use Rattle.i2c.specs.How.{gone}
 use Rattle.i2c.specs.Facts.{Recalled, Answered}
 use Rattle.i2c_code.proofs.Answers.{all_heard, not_there}
 
-eleven_first : (c : I2c) → allowed c.phase (code c) ≡ false → go_turn c ≡ refused 11
+eleven_first : (c : I2c) → allowed c.phase (code c) ≡ false → go_turn c ≡ refused WrongControl
 eleven_first c h = rw h
 
 fall_away : (p : Phase) (r c : ℕ) → accepts true p r c ≡ accepts false p r c && not (eqb (state_of p) 2 && stop_alone (code_of r c))
@@ -57,14 +59,14 @@ recalls = record {
 
 -- ---- the slave's answer
 
-refusal_goes : (k : ℕ) (d : I2c) → ◌≡◌ {A = Turn I2c ℕ} (refused k) (goes d) → ⊥
+refusal_goes : (k : Refusal) (d : I2c) → ◌≡◌ {A = Turn I2c ℕ} (refused k) (goes d) → ⊥
 refusal_goes k d h = let z : ◌≡◌ {A = ℕ} 0 1 = cc in omega arith
 
 -- an accepted GO has run
-has_run : (may bars : Bool) (d e : I2c) → ◌≡◌ {A = Turn I2c ℕ} (cond may (cond bars (refused 16) (goes d)) (refused 11)) (goes e) → d ≡ e
-has_run true true d e h = absurd (refusal_goes 16 e h)
+has_run : (may bars : Bool) (d e : I2c) → ◌≡◌ {A = Turn I2c ℕ} (cond may (cond bars (refused StopAfterAck) (goes d)) (refused WrongControl)) (goes e) → d ≡ e
+has_run true true d e h = absurd (refusal_goes StopAfterAck e h)
 has_run true false d e h = cc
-has_run false bars d e h = absurd (refusal_goes 11 e h)
+has_run false bars d e h = absurd (refusal_goes WrongControl e h)
 
 pub answered : Answered
 answered = record {

@@ -2,6 +2,7 @@
 -- Assumes nothing.
 use Rattle.std.specs.Prelude.{ℕ, ◌≡◌, true, false, not, ◌&&◌, eqb}
 use Rattle.bits.specs.Bits.{bit}
+use Rattle.refused.specs.declared.Refusal.TheVariants.{WrongControl}
 use Rattle.fold.specs.Turn.{goes, refused}
 use Rattle.i2c_code.specs.declared.Phase.{Phase}
 use Rattle.i2c_code.specs.declared.Phase.TheVariants.{Idle}
@@ -18,7 +19,7 @@ pub record Recalled : Type 0 where
   -- "when true the four STOP-alone codes of RX idle fall away", and no other
   pub fall_away : (p : Phase) (r c : ℕ) → accepts true p r c ≡ accepts false p r c && not (eqb (state_of p) 2 && stop_alone (code_of r c))
   -- "tested after 11"
-  pub eleven_first : (c : I2c) → allowed c.phase (code c) ≡ false → go_turn c ≡ refused 11
+  pub eleven_first : (c : I2c) → allowed c.phase (code c) ≡ false → go_turn c ≡ refused WrongControl
 
 pub record Answered : Type 0 where
   -- "used up by that GO", one that is accepted: "Without it all is acknowledged"

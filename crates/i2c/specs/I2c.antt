@@ -1,6 +1,7 @@
 -- The I2C control sequencer, as paper 01 has it, with what paper 02 has it recall (h) and the slave answer (i).
 -- Assumes nothing.
 use Rattle.std.specs.Prelude.{ℕ, Bool, false, not, cond, ◌&&◌, eqb}
+use Rattle.refused.specs.declared.Refusal.TheVariants.{WrongControl, StopAfterAck}
 use Rattle.fold.specs.Turn.{Turn, goes, refused}
 use Rattle.i2c_code.specs.declared.Phase.TheVariants.{Idle}
 use Rattle.i2c_code.specs.declared.Code.{Code}
@@ -35,7 +36,7 @@ ran c = let failure = failed c.answer (code c) in let nobody = eqb failure 1 in
 
 -- 11 "GO with a control code not allowed". 16 is "tested after 11"
 abbrev pub go_turn : I2c → Turn I2c ℕ
-go_turn c = cond (allowed c.phase (code c)) (cond (forbidden c.phase c.acknowledged (code c)) (refused 16) (goes (ran c))) (refused 11)
+go_turn c = cond (allowed c.phase (code c)) (cond (forbidden c.phase c.acknowledged (code c)) (refused StopAfterAck) (goes (ran c))) (refused WrongControl)
 
 -- a write: "0 ADDR rw, 1 CNTL rw, 2 GO w"
 abbrev pub write_turn : ℕ → ℕ → I2c → Turn I2c ℕ
