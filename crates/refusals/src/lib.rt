@@ -1,4 +1,4 @@
-// What refuses a record that is decoded, by its edition and the SELECT and the I2C of its bank: 9, 10, 11, 16 or 18, or 0.
+// What refuses a record that is decoded, by its edition and the SELECT and the I2C of its bank: 9, 10, 11, 16 or 18.
 #![tactic(auto)]
 
 ghost use Rattle.std.specs.Prelude.{◌≡◌};
@@ -7,63 +7,65 @@ ghost use Rattle.refusals.specs.How.{unrouted, cnfg_refusal, select_refusal, go_
 use edition::Edition;
 use i2c::I2c;
 use records::Record;
+use refused::Refusal;
 
-fn unrouted(routed: bool) -> u8
+fn unrouted(routed: bool) -> Result<(), Refusal>
     ensures { result ≡ unrouted routed }
 {
-    if routed { 0 } else { 9 }
+    if routed {
+        Ok(())
+    } else {
+        Err(Refusal::NotRouted)
+    }
 }
 
-fn cnfg_refusal(quadrature: bool, routed: bool, v: u64) -> u8
+fn cnfg_refusal(quadrature: bool, routed: bool, v: u64) -> Result<(), Refusal>
     ensures { result ≡ cnfg_refusal quadrature routed v }
 {
+    unrouted(routed)?;
     if quadrature & ((v >> 2) % 2 == 1) {
-        if routed {
-            return 18;
-        }
-        return 9;
+        Err(Refusal::StepAndDirection)
+    } else {
+        Ok(())
     }
-    unrouted(routed)
 }
 
-fn select_refusal(port: bool, v: u64) -> u8
+fn select_refusal(port: bool, v: u64) -> Result<(), Refusal>
     ensures { result ≡ select_refusal port v }
 {
     if select_allowed::allowed(port, v) {
-        0
+        Ok(())
     } else {
-        10
+        Err(Refusal::WrongSelect)
     }
 }
 
-fn go_refusal(c: I2c) -> u8
+fn go_refusal(c: I2c) -> Result<(), Refusal>
     ensures { result ≡ go_refusal c }
 {
-    if c.permits() {
-        if c.forbids() {
-            return 16;
-        }
-        return 0;
+    if !c.permits() {
+        return Err(Refusal::WrongControl);
     }
-    11
+    if c.forbids() {
+        return Err(Refusal::StopAfterAck);
+    }
+    Ok(())
 }
 
-fn i2c_refusal(routed: bool, register: u64, c: I2c) -> u8
+fn i2c_refusal(routed: bool, register: u64, c: I2c) -> Result<(), Refusal>
     ensures { result ≡ i2c_refusal routed register c }
 {
-    if routed {
-        if register == 0 {
-            return 0;
-        }
-        if register == 1 {
-            return 0;
-        }
-        return go_refusal(c);
+    if !routed {
+        return Err(Refusal::NotRouted);
     }
-    9
+    match register {
+        0 | 1 => Ok(()),
+        _ => go_refusal(c),
+    }
 }
 
-pub fn refusal(edition: Edition, select: u64, c: I2c, r: Record) -> u8
+#[tactic(auto, unfolding(crate::specs::How::refusal_of))]
+pub fn refusal(edition: Edition, select: u64, c: I2c, r: Record) -> Result<(), Refusal>
     ensures { result ≡ refusal_of edition select c r }
 {
     match r {
@@ -82,11 +84,11 @@ pub fn refusal(edition: Edition, select: u64, c: I2c, r: Record) -> u8
             i2c_refusal(select::i2c_routed(edition.port, select), register, c)
         }
         Record::Answer(_) => unrouted(select::i2c_routed(edition.port, select)),
-        Record::ReadSelect => 0,
-        Record::ReadEncoder(_, _) => 0,
-        Record::ReadPwm(_, _) => 0,
-        Record::ReadI2c(_) => 0,
+        Record::ReadSelect => Ok(()),
+        Record::ReadEncoder(_, _) => Ok(()),
+        Record::ReadPwm(_, _) => Ok(()),
+        Record::ReadI2c(_) => Ok(()),
         Record::Pins(channel, _) => unrouted(select::encoder_routed(edition.port, select, channel)),
-        Record::Ticks(_) => 0,
+        Record::Ticks(_) => Ok(()),
     }
 }
