@@ -10,8 +10,10 @@ use Rattle.divider.specs.Divider.{divider_of}
 use Rattle.rate.specs.declared.Rule.{Rule}
 use Rattle.rate_counts.specs.declared.Bracket.{Bracket}
 use Rattle.rate_counts.specs.declared.Nearest.{Nearest}
-use Rattle.rate.specs.declared.Found.{Found}
-use Rattle.rate.specs.declared.Found.TheVariants.{Pair, Refused}
+use Rattle.std.specs.Prelude.{Result, Ok, Err}
+use Rattle.refused.specs.declared.Refusal.{Refusal}
+use Rattle.refused.specs.declared.Refusal.TheVariants.{RateOutOfRange, ToleranceTooLarge, NoPair}
+use Rattle.rate.specs.declared.Pair.{Pair}
 use Rattle.rate.specs.Rate.{apart, period, IsPair, AsGood, Within, Wins, InRange, Outcome, outside, loose, none, pair, found_numbers, Answer, pwm, spi}
 use Rattle.rate.specs.Facts.{Settled}
 use Rattle.rate_counts.specs.How.{Fit, Brackets, undivided_of, nearer_of}
@@ -23,9 +25,6 @@ use Rattle.rate.proofs.Sides.{Least, pair_pos, some_count, fewer_best, more_best
 
 -- a rate in range is such as the finder takes
 module _ (u : Rule) (fair : Fair u) (f : ℕ) (range : InRange u f) where
-  pub first_fits : f * u.base < 2 ^ 64
-  first_fits = omega (arith, mul-le-mul range.1 fair.twice, fair.high)
-
   pub fitting : Fit u.clock (f * u.base)
   fitting =
       let reach : u.low * u.base ≤ f * u.base = mul-le-mul_right u.base range.0 in
@@ -33,19 +32,9 @@ module _ (u : Rule) (fair : Fair u) (f : ℕ) (range : InRange u f) where
       let some : 0 < f * u.base = mul-pos (omega (arith, fair.low, range.0)) fair.base in
       omega (arith, fair)
 
-  pub step_some : 0 < f * u.base
-  step_some = fitting.some
-
-  module _ (tol : ℕ) (few : tol ≤ 1_000_000) (a : Bracket) (low : a.low < 65_536) where
-    pub finest_asked : Brackets u.clock (f * u.base) a → Asked u f tol a
-    finest_asked h = record { fair = fair; range = range; few = few; bracket = h; low = low }
-
-    pub undivided_asked : a ≡ undivided_of u.clock (f * u.base) → Asked u f tol a
-    undivided_asked e = finest_asked (rw e (first_brackets u.clock (f * u.base) fitting))
-
 -- of the pairs of w counts, the one that is answered has the smallest divider
 module _ (c w : ℕ) (hc : 1 ≤ c) (lc : c ≤ 7) (hw : 1 ≤ w) (lw : w ≤ 65_536) (full : 1 < c → 32_768 ≤ w) where
-  least : (p : ℕ) (Q : Found → Type 0) → ((d x : ℕ) → Least (divider_of c) w d x → Q (Pair d x p)) → Q (pair_of c w p)
+  least : (p : ℕ) (Q : Pair → Type 0) → ((d x : ℕ) → Least (divider_of c) w d x → Q (record { choice = d; x = x; period = p })) → Q (pair_of c w p)
   least p Q g =
       by_lt Q 1 c
       (λ h. by_le Q w 32_768 (λ l. g _ _ (smaller h (omega (arith, full h)))) (λ l. g _ _ (kept (λ h. l))))
@@ -94,9 +83,6 @@ module _ (u : Rule) (f tol : ℕ) (a : Bracket) (asked : Asked u f tol a) where
     missed : v.miss ≡ apart C (s * v.count)
     best : (d x e y : ℕ) → Least N v.count d x → IsPair e y → AsGood C f (k * N * v.count) (divider_of d) (period u e y) (divider_of e)
 
-  pub step_fits : s < 2 ^ 64
-  step_fits = omega (arith, h.around.wide)
-
   steps : s ≡ f * (k * N)
   steps = rw h.divides (omega arith)
 
@@ -132,24 +118,11 @@ module _ (u : Rule) (f tol : ℕ) (a : Bracket) (asked : Asked u f tol a) where
     abbrev P : ℕ
     P = k * a.divider * w
 
-    pub count_some : 0 < w
-    count_some = near.some
-
-    pub count_most : w ≤ 65_536
-    count_most = near.most
-
     got : s * w ≡ f * (k * N * w)
     got = rw steps (omega arith)
 
     periods : (d x : ℕ) → Least N w d x → k * N * w ≡ period u d x
     periods d x q = let e = ap (λ (z : ℕ). k * z) q.same in omega arith
-
-    -- the code's own numbers
-    pub got_fits : s * w < 2 ^ 64
-    got_fits = omega (arith, near.small, h.around)
-
-    pub miss_fits : (g : ℕ) → g ≤ 1_000_000 → g * v.miss < 2 ^ 64
-    miss_fits g t = omega (arith, near.missed, near.small, h.around, mul-le-mul_right v.miss t)
 
     pub allowed_fits : tol * (s * w) < 2 ^ 64
     allowed_fits = omega (arith, near.small, h.around, mul-le-mul_right (s * w) asked.few)
@@ -165,14 +138,14 @@ module _ (u : Rule) (f tol : ℕ) (a : Bracket) (asked : Asked u f tol a) where
           best = λ e y p. rw (periods d x q) at (near.best d x e y q p);
         }
 
-    paired : 1_000_000 * v.miss ≤ tol * (s * w) → (d x : ℕ) → Least N w d x → Answer u f tol (Pair d x P)
+    paired : 1_000_000 * v.miss ≤ tol * (s * w) → (d x : ℕ) → Least N w d x → Answer u f tol (Ok (record { choice = d; x = x; period = P }))
     paired g d x q = rw (h.divides, periods d x q) (pair asked.range asked.few (wins g d x q))
 
-    pub answer_pair : (r : Found) → 1_000_000 * v.miss ≤ tol * (s * w) → r ≡ pair_of c w P → Answer u f tol r
+    pub answer_pair : (r : Pair) → 1_000_000 * v.miss ≤ tol * (s * w) → r ≡ pair_of c w P → Answer u f tol (Ok r)
     answer_pair r g t =
-        rw t (least c w h.some h.most near.some near.most near.full P (Answer u f tol) (paired g))
+        rw t (least c w h.some h.most near.some near.most near.full P (λ r. Answer u f tol (Ok r)) (paired g))
 
-    pub answer_none : tol * (s * w) < 1_000_000 * v.miss → Answer u f tol (Refused 14)
+    pub answer_none : tol * (s * w) < 1_000_000 * v.miss → Answer u f tol (Err NoPair)
     answer_none g = none asked.range asked.few no_pair
       where
         too_far : Within C f tol (k * N * w) → ⊥
@@ -184,19 +157,19 @@ module _ (u : Rule) (f tol : ℕ) (a : Bracket) (asked : Asked u f tol a) where
             (λ b x q. too_far (within_near tol (pair_pos C k f fair.base a h d y p) (near.best b x d y q p) t))
 
 -- the answer: the nearer count of the finest divider's bracket, if that is within the tolerance
-abbrev answer : ℕ → ℕ → ℕ → ℕ → ℕ → Nearest → Found
-answer tol k c d s v = cond (leb (1_000_000 * v.miss) (tol * (s * v.count))) (pair_of c v.count (k * d * v.count)) (Refused 14)
+abbrev answer : ℕ → ℕ → ℕ → ℕ → ℕ → Nearest → Result Pair Refusal
+answer tol k c d s v = cond (leb (1_000_000 * v.miss) (tol * (s * v.count))) (Ok (pair_of c v.count (k * d * v.count))) (Err NoPair)
 
-abbrev answer_at : Rule → ℕ → ℕ → Bracket → Found
+abbrev answer_at : Rule → ℕ → ℕ → Bracket → Result Pair Refusal
 answer_at u f tol a =
     let s = f * u.base * a.divider in
     answer tol u.base a.choice a.divider s (nearer_of u.clock s a.low)
 
-abbrev pub found : Rule → ℕ → ℕ → Found
+abbrev pub found : Rule → ℕ → ℕ → Result Pair Refusal
 found u f tol =
-    cond (ltb f u.low) (Refused 12)
-    (cond (ltb u.high f) (Refused 12)
-    (cond (ltb 1_000_000 tol) (Refused 13)
+    cond (ltb f u.low) (Err RateOutOfRange)
+    (cond (ltb u.high f) (Err RateOutOfRange)
+    (cond (ltb 1_000_000 tol) (Err ToleranceTooLarge)
     (answer_at u f tol (shortened 6 (undivided_of u.clock (f * u.base))))))
 
 module _ (u : Rule) (fair : Fair u) (f tol : ℕ) where

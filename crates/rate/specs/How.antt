@@ -4,8 +4,7 @@ use Rattle.std.specs.Prelude.{cond, ℕ, ◌-◌, ◌*◌, ◌≤◌, ◌<◌, l
 use Rattle.rate_counts.specs.declared.Bracket.{Bracket}
 use Rattle.rate_counts.specs.How.{Brackets}
 use Rattle.rate.specs.declared.Rule.{Rule}
-use Rattle.rate.specs.declared.Found.{Found}
-use Rattle.rate.specs.declared.Found.TheVariants.{Pair}
+use Rattle.rate.specs.declared.Pair.{Pair}
 use Rattle.rate.specs.Rate.{InRange}
 
 -- the rules whose every wanted rate makes one
@@ -27,5 +26,7 @@ pub record Asked (u : Rule) (f tol : ℕ) (a : Bracket) : Type 0 where
   pub low : a.low < 65_536
 
 -- the pair of the choice c, m counts and the period p, with the smaller divider where two make the same period
-abbrev pub pair_of : ℕ → ℕ → ℕ → Found
-pair_of c m p = cond (ltb 1 c) (cond (leb m 32_768) (Pair (c - 1) (2 * m - 1) p) (Pair c (m - 1) p)) (Pair c (m - 1) p)
+abbrev pub pair_of : ℕ → ℕ → ℕ → Pair
+pair_of c m p =
+    let kept : Pair = record { choice = c; x = m - 1; period = p } in
+    cond (ltb 1 c) (cond (leb m 32_768) (record { choice = c - 1; x = 2 * m - 1; period = p }) kept) kept

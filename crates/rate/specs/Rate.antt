@@ -1,13 +1,13 @@
 -- Paper 01, "Rates" and the numbers of refusal 12 to 15, in the paper's order, with paper 02's f): a wanted rate is in whole millihertz, and
 -- its answer gives the period too. "PWM and SPI are asked by separate calls": a rule u has the numbers of one of them. A pair is a divider
 -- choice c and X. Assumes nothing.
-use Rattle.std.specs.Prelude.{◌≡◌, cond, ◌||◌, ℕ, ◌+◌, ◌-◌, ◌*◌, ◌≤◌, ◌<◌, ltb}
+use Rattle.std.specs.Prelude.{◌≡◌, cond, ◌||◌, ℕ, ◌+◌, ◌-◌, ◌*◌, ◌≤◌, ◌<◌, ltb, Result, Ok, Err}
 use Rattle.divider.specs.Divider.{divider_of}
 use Rattle.rate.specs.declared.Rule.{Rule}
-use Rattle.rate.specs.declared.Rated.{Rated}
-use Rattle.rate.specs.declared.Rated.TheVariants.{Ratio, Unset}
-use Rattle.rate.specs.declared.Found.{Found}
-use Rattle.rate.specs.declared.Found.TheVariants.{Pair, Refused}
+use Rattle.rate.specs.declared.Pair.{Pair}
+use Rattle.rate.specs.declared.Ratio.{Ratio}
+use Rattle.refused.specs.declared.Refusal.{Refusal}
+use Rattle.refused.specs.Number.{number}
 
 -- in a unit of which k are a hertz: "PWM: 40 to 40,000 Hz, period P = N(X+1) ticks", of a clock with 40,000,000 ticks a second; with k 1,000
 -- "whole millihertz, 40,000 to 40,000,000 for PWM"
@@ -35,9 +35,9 @@ abbrev pub rate_of : Rule → ℕ → ℕ → ℕ × ℕ × ℕ
 rate_of u c x = cond (ltb c 1 || (ltb 7 c || ltb 65_535 x)) (15, 0, 0) (0, u.hertz, period u c x)
 
 -- the numbers of such an answer
-abbrev pub rated_numbers : Rated → ℕ × ℕ × ℕ
-rated_numbers (Ratio k p) = (0, k, p)
-rated_numbers (Unset n) = (n, 0, 0)
+abbrev pub rated_numbers : Result Ratio Refusal → ℕ × ℕ × ℕ
+rated_numbers (Ok r) = (0, r.clock, r.period)
+rated_numbers (Err k) = (number k, 0, 0)
 
 -- |a - b|
 abbrev pub apart : ℕ → ℕ → ℕ
@@ -77,9 +77,9 @@ pub data Outcome (u : Rule) (f tol : ℕ) : ℕ × ℕ × ℕ × ℕ → Type 0 
   pair : {c x : ℕ} → InRange u f → tol ≤ 1_000_000 → Wins u f tol c x → Outcome u f tol (0, c, x, period u c x)
 
 -- the numbers of an answer
-abbrev pub found_numbers : Found → ℕ × ℕ × ℕ × ℕ
-found_numbers (Pair c x p) = (0, c, x, p)
-found_numbers (Refused n) = (n, 0, 0, 0)
+abbrev pub found_numbers : Result Pair Refusal → ℕ × ℕ × ℕ × ℕ
+found_numbers (Ok p) = (0, p.choice, p.x, p.period)
+found_numbers (Err k) = (number k, 0, 0, 0)
 
-abbrev pub Answer : Rule → ℕ → ℕ → Found → Type 0
+abbrev pub Answer : Rule → ℕ → ℕ → Result Pair Refusal → Type 0
 Answer u f tol r = Outcome u f tol (found_numbers r)

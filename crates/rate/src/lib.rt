@@ -7,6 +7,7 @@ ghost use Rattle.rate.specs.How.{Fair, Asked, pair_of};
 
 use divider::divider;
 use rate_counts::{Bracket, finest, nearer, undivided};
+use refused::Refusal;
 
 // The clock's rate in hertz, for rates from registers; its rate and the range of wanted rates, all in the unit of these; the factor of a
 // period. PWM and SPI differ in the range and the factor.
@@ -19,17 +20,19 @@ pub struct Rule {
     pub base: u64,
 }
 
+// A divider choice and X, and the period that they make, in ticks.
 #[derive(Clone, Copy)]
-pub enum Found {
-    Pair { choice: u64, x: u64, period: u64 },
-    Refused(u8),
+pub struct Pair {
+    pub choice: u64,
+    pub x: u64,
+    pub period: u64,
 }
 
 // A rate as a fraction: the clock's rate over the period in ticks.
 #[derive(Clone, Copy)]
-pub enum Rated {
-    Ratio { clock: u64, period: u64 },
-    Unset(u8),
+pub struct Ratio {
+    pub clock: u64,
+    pub period: u64,
 }
 
 const PWM: Rule = Rule {
@@ -41,63 +44,56 @@ const PWM: Rule = Rule {
 };
 
 const SPI: Rule = Rule {
-    hertz: 40_000_000,
-    clock: 40_000_000_000,
-    low: 40_000,
     high: 4_000_000_000,
     base: 2,
+    ..PWM
 };
 
 // The pair of a choice and a count, with the smaller divider where two make the same period.
-fn pair(choice: u64, count: u64, period: u64) -> Found
+fn pair_of(choice: u64, count: u64, period: u64) -> Pair
     requires { (0 < count) × (count ≤ 65_536) }
     ensures { result ≡ pair_of choice count period }
 {
-    if 1 < choice {
-        if count <= 32_768 {
-            return Found::Pair {
-                choice: choice - 1,
-                x: 2 * count - 1,
-                period: period,
-            };
-        }
+    if 1 < choice && count <= 32_768 {
+        return Pair {
+            choice: choice - 1,
+            x: 2 * count - 1,
+            period,
+        };
     }
-    Found::Pair {
-        choice: choice,
+    Pair {
+        choice,
         x: count - 1,
-        period: period,
+        period,
     }
 }
 
 // The answer from the bracket of the finest divider. No product is larger than the two that are compared here: each is at most 1,000,000
 // times 49,000,000,000, below 2^56.
-fn answer(rule: Rule, f: u64, tol: u64, a: Bracket) -> Found
+fn answer(rule: Rule, f: u64, tol: u64, a: Bracket) -> Result<Pair, Refusal>
     requires { Asked rule f tol a }
     ensures { Answer rule f tol result }
 {
     let step = f * rule.base * a.divider;
     let near = nearer(rule.clock, step, a.low);
     if 1_000_000 * near.miss <= tol * (step * near.count) {
-        pair(a.choice, near.count, rule.base * a.divider * near.count)
+        Ok(pair_of(a.choice, near.count, rule.base * a.divider * near.count))
     } else {
-        Found::Refused(14)
+        Err(Refusal::NoPair)
     }
 }
 
 // The answer for the wanted rate `f` and the tolerance `tol`, in parts per million. Most rates need no divider, and are answered sooner for
 // being told apart here.
-fn find(rule: Rule, f: u64, tol: u64) -> Found
+fn find(rule: Rule, f: u64, tol: u64) -> Result<Pair, Refusal>
     requires { Fair rule }
     ensures { Answer rule f tol result }
 {
-    if f < rule.low {
-        return Found::Refused(12);
-    }
-    if rule.high < f {
-        return Found::Refused(12);
+    if f < rule.low || rule.high < f {
+        return Err(Refusal::RateOutOfRange);
     }
     if 1_000_000 < tol {
-        return Found::Refused(13);
+        return Err(Refusal::ToleranceTooLarge);
     }
     let step = f * rule.base;
     let a = undivided(rule.clock, step);
@@ -108,48 +104,43 @@ fn find(rule: Rule, f: u64, tol: u64) -> Found
 }
 
 // The pair for a PWM rate in millihertz, within the tolerance in parts per million.
-pub fn find_pwm(f: u64, tol: u64) -> Found
+pub fn find_pwm(f: u64, tol: u64) -> Result<Pair, Refusal>
     ensures { Answer (pwm 1_000) f tol result }
 {
     find(PWM, f, tol)
 }
 
 // The pair for an SPI rate.
-pub fn find_spi(f: u64, tol: u64) -> Found
+pub fn find_spi(f: u64, tol: u64) -> Result<Pair, Refusal>
     ensures { Answer (spi 1_000) f tol result }
 {
     find(SPI, f, tol)
 }
 
 // The rate of a divider choice and X.
-fn rate_of(rule: Rule, choice: u64, x: u64) -> Rated
+fn rate_of(rule: Rule, choice: u64, x: u64) -> Result<Ratio, Refusal>
     requires { Fair rule }
     ensures { rated_numbers result ≡ rate_of rule choice x }
 {
-    if choice < 1 {
-        return Rated::Unset(15);
-    }
-    if 7 < choice {
-        return Rated::Unset(15);
-    }
+    let divider = divider(choice).ok_or(Refusal::NoSuchPair)?;
     if 65_535 < x {
-        return Rated::Unset(15);
+        return Err(Refusal::NoSuchPair);
     }
-    Rated::Ratio {
+    Ok(Ratio {
         clock: rule.hertz,
-        period: rule.base * divider(choice) * (x + 1),
-    }
+        period: rule.base * divider * (x + 1),
+    })
 }
 
 // The rate that PWM registers give.
-pub fn pwm_rate(choice: u64, x: u64) -> Rated
+pub fn pwm_rate(choice: u64, x: u64) -> Result<Ratio, Refusal>
     ensures { rated_numbers result ≡ rate_of (pwm 1_000) choice x }
 {
     rate_of(PWM, choice, x)
 }
 
 // The rate that SPI registers give.
-pub fn spi_rate(choice: u64, x: u64) -> Rated
+pub fn spi_rate(choice: u64, x: u64) -> Result<Ratio, Refusal>
     ensures { rated_numbers result ≡ rate_of (spi 1_000) choice x }
 {
     rate_of(SPI, choice, x)
