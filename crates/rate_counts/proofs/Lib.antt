@@ -1,3 +1,2 @@
 pub mod Dividers
 pub mod Around
-mod Fits

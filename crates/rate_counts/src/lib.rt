@@ -66,13 +66,14 @@ pub fn nearer(clock: u64, step: u64, low: u64) -> Nearest
     let short = clock - under;
     let over = step - short;
     if short * (low + 1) <= over * low {
-        return Nearest {
+        Nearest {
             count: low,
             miss: short,
-        };
-    }
-    Nearest {
-        count: low + 1,
-        miss: over,
+        }
+    } else {
+        Nearest {
+            count: low + 1,
+            miss: over,
+        }
     }
 }

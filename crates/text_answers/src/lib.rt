@@ -20,6 +20,7 @@ pub fn rate_text(out: &mut [u8], clock: u64, period: u64) -> usize
     put_pair(out, 0, b"", clock, b" ", period)
 }
 
+// A number, as the text has it.
 pub fn refused_text(out: &mut [u8], number: u64) -> usize
     ensures { Put out.old 0 (refused_text number) out.new result }
 {
@@ -38,12 +39,7 @@ pub fn no_number_text(out: &mut [u8], name: &[u8]) -> usize
     ensures { Put out.old 0 (no_number_text name.now) out.new result }
 {
     let end = put_word(out, 0, name);
-    put_line(
-        out,
-        end,
-        b" is no decimal number from 0 to ",
-        18_446_744_073_709_551_615,
-    )
+    put_line(out, end, b" is no decimal number from 0 to ", u64::MAX)
 }
 
 // What the judge prints where a transcript differs.

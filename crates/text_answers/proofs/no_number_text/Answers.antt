@@ -1,0 +1,6 @@
+-- `text_answers::no_number_text` meets its contract. Assumes nothing.
+use Rattle.decimal.proofs.Puts.{put_then}
+use Rattle.text_answers.proofs.no_number_text.Goals as goal
+
+pub returns : goal.returns
+returns c = search put_then
