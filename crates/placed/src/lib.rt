@@ -1,7 +1,7 @@
 // Whether a record is refused, or where it goes in the flat arrays, and what it does to the one element that is there.
 #![tactic(auto)]
 
-ghost use Rattle.std.specs.Prelude.{◌≡◌, ◌<◌};
+ghost use Rattle.std.specs.Prelude.{◌≡◌, ◌<◌, IfOk};
 ghost use Rattle.encoder.specs.Encoder.{on_pins, on_cnfg};
 ghost use Rattle.pwm.specs.Pwm.{on_write};
 ghost use Rattle.placed.specs.How.{Bounded, Inside, spot_of, placed_of, i2c_after};
@@ -11,12 +11,12 @@ use encoder::Encoder;
 use i2c::I2c;
 use pwm::Pwm;
 use records::Record;
+use refused::Refusal;
 
 // A record by its channel's place in the array of both banks, and with its register and its value, in this order, where it has them;
-// or the number that it reads, or the one that refuses it. Each number is 64 bits wide, so that the variants lie alike and none has to be kept in memory.
+// or the number that it reads. Each number is 64 bits wide, so that the variants lie alike and none has to be kept in memory.
 #[derive(Clone, Copy)]
 pub enum Placed {
-    Refused(u64),
     Reads(u64),
     PinsAt(usize, u64),
     CnfgAt(usize, u64),
@@ -29,6 +29,7 @@ pub enum Placed {
 }
 
 // One that is not refused, with the SELECT and the I2C of its bank.
+#[tactic(auto, unfolding(crate::specs::How::spot_of))]
 fn spot(select: u64, c: I2c, bank: usize, r: Record) -> Placed
     requires bank_bound { bank < 2 }
     requires bounded { Bounded r }
@@ -57,17 +58,21 @@ fn spot(select: u64, c: I2c, bank: usize, r: Record) -> Placed
     }
 }
 
-pub fn place(edition: Edition, select: u64, c: I2c, bank: usize, r: Record) -> Placed
+#[tactic(auto, unfolding(crate::specs::How::placed_of))]
+pub fn place(
+    edition: Edition,
+    select: u64,
+    c: I2c,
+    bank: usize,
+    r: Record,
+) -> Result<Placed, Refusal>
     requires bank_bound { bank < 2 }
     requires bounded { Bounded r }
     ensures value { result ≡ placed_of edition select c bank r }
-    ensures inside { Inside result }
+    ensures inside { IfOk result Inside }
 {
-    let number = refusals::refusal(edition, select, c, r);
-    if number != 0 {
-        return Placed::Refused(number as u64);
-    }
-    spot(select, c, bank, r)
+    refusals::refusal(edition, select, c, r)?;
+    Ok(spot(select, c, bank, r))
 }
 
 // ---- what it does to the element that is there
@@ -93,6 +98,7 @@ pub fn write(p: Pwm, register: u64, v: u64) -> Pwm
     p.write(register, v as u16)
 }
 
+#[tactic(auto, unfolding(crate::specs::How::i2c_after))]
 pub fn i2c_after(c: I2c, r: Record) -> I2c
     requires { Bounded r }
     ensures { result ≡ i2c_after c r }
