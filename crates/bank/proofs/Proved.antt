@@ -9,6 +9,7 @@ use Rattle.encoder.specs.declared.Encoder.{Encoder}
 use Rattle.encoder.specs.Encoder as encoder
 use Rattle.pwm.specs.declared.Pwm.{Pwm}
 use Rattle.pwm.specs.Pwm as pwm
+use Rattle.refused.specs.declared.Refusal.TheVariants.{NotRouted}
 use Rattle.fold.specs.Turn.{Turn, goes, refused}
 use Rattle.select.specs.Select.{encoder_routed, pwm_routed}
 use Rattle.bank.specs.declared.Bank.{Bank}
@@ -16,7 +17,7 @@ use Rattle.bank.specs.Bank.{encoder_at, pwm_at, with_encoder, with_pwm, to_encod
 use Rattle.bank.specs.Facts.{Only}
 
 -- where a test lets it go to d it has gone to d
-gone : (test : Bool) (c d : Bank) → ◌≡◌ {A = Turn Bank ℕ} (cond test (goes d) (refused 9)) (goes c) → d ≡ c
+gone : (test : Bool) (c d : Bank) → ◌≡◌ {A = Turn Bank ℕ} (cond test (goes d) (refused NotRouted)) (goes c) → d ≡ c
 gone true c d e = cc
 gone false c d e = let z : ◌≡◌ {A = ℕ} 0 1 = cc in absurd (omega arith)
 
