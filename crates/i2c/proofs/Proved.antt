@@ -5,13 +5,15 @@ use mathlib.Core.Bool.{Bool, true, false, not, cond, ◌&&◌, and-false}
 use Prim.Native.Nat.{ℕ}
 use native.Mathlib.Omega.{arith}
 use lib.Dec.{eqb}
+use Rattle.std.proofs.Common.{Option}
 use Rattle.refused.specs.declared.Refusal.{Refusal}
 use Rattle.refused.specs.declared.Refusal.TheVariants.{WrongControl, StopAfterAck}
 use Rattle.fold.specs.Turn.{Turn, goes, refused}
+use Rattle.i2c_code.specs.declared.Failure.{Failure}
 use Rattle.i2c_code.specs.declared.Phase.{Phase}
 use Rattle.i2c.specs.declared.I2c.{I2c}
 use Rattle.i2c_code.specs.declared.Code.{Code}
-use Rattle.i2c_code.specs.Code.{code_of, state_of, stop_alone, allowed, forbidden}
+use Rattle.i2c_code.specs.Code.{code_of, state_of, stop_alone, allowed, forbidden, failure_number}
 use Rattle.i2c_code.specs.Facts.{accepts}
 use Rattle.i2c.specs.I2c.{code, recalled, ran, go_turn}
 use Rattle.i2c.specs.How.{gone}
@@ -46,13 +48,13 @@ after_byte r b s t a e f g = rw (e, f, g)
 
 -- what is false with no failure is false with any
 still : (c : I2c) → recalled false (code c) ≡ false → (ran c).acknowledged ≡ false
-still c h = let heard = not (eqb (ran c).failure 1) in ap (λ (b : Bool). heard && b) h ∙ and-false heard
+still c h = let heard = not (eqb (failure_number (ran c).failure) 1) in ap (λ (b : Bool). heard && b) h ∙ and-false heard
 
 pub recalls : Recalled
 recalls = record {
   send = λ c b r. still c (after_send (code c).receive (code c).byte (code c).start (code c).stop (code c).ack r);
   stop = λ c s. still c (after_stop (code c).receive (code c).byte (code c).start (code c).stop (code c).ack s);
-  received = λ c b r s f. ap (λ (n : ℕ). (gone c n).acknowledged) f ∙ after_byte (code c).receive (code c).byte (code c).start (code c).stop (code c).ack b r s;
+  received = λ c b r s f. ap (λ (n : Option Failure). (gone c n).acknowledged) f ∙ after_byte (code c).receive (code c).byte (code c).start (code c).stop (code c).ack b r s;
   fall_away = fall_away;
   eleven_first = eleven_first;
 }
@@ -74,5 +76,5 @@ answered = record {
   plain = λ c e. ap (gone c) (all_heard c.answer (code c) e);
   address = λ c s b.
       let f = not_there c.answer (code c) s b in
-      (f, ap (λ (n : ℕ). (gone c n).phase) f, ap (λ (n : ℕ). (gone c n).acknowledged) f);
+      (f, ap (λ (n : Option Failure). (gone c n).phase) f, ap (λ (n : Option Failure). (gone c n).acknowledged) f);
 }

@@ -1,11 +1,11 @@
 -- The I2C control sequencer, as paper 01 has it, with what paper 02 has it recall (h) and the slave answer (i).
 -- Assumes nothing.
-use Rattle.std.specs.Prelude.{ℕ, Bool, false, not, cond, ◌&&◌, eqb}
+use Rattle.std.specs.Prelude.{ℕ, Bool, false, not, cond, ◌&&◌, eqb, None}
 use Rattle.refused.specs.declared.Refusal.TheVariants.{WrongControl, StopAfterAck}
 use Rattle.fold.specs.Turn.{Turn, goes, refused}
 use Rattle.i2c_code.specs.declared.Phase.TheVariants.{Idle}
 use Rattle.i2c_code.specs.declared.Code.{Code}
-pub use Rattle.i2c_code.specs.Code.{code_of, state_of, failed, ended}
+pub use Rattle.i2c_code.specs.Code.{code_of, state_of, failed, failure_number, ended}
 unfoldable pub use Rattle.i2c_code.specs.Code.{allowed, forbidden}
 use Rattle.i2c.specs.declared.I2c.{I2c}
 
@@ -31,7 +31,7 @@ abbrev pub code : I2c → Code
 code c = code_of c.addr c.cntl
 
 abbrev pub ran : I2c → I2c
-ran c = let failure = failed c.answer (code c) in let nobody = eqb failure 1 in
+ran c = let failure = failed c.answer (code c) in let nobody = eqb (failure_number failure) 1 in
     record { addr = c.addr; cntl = c.cntl; phase = ended nobody (code c); acknowledged = recalled nobody (code c); answer = 3; failure = failure }
 
 -- 11 "GO with a control code not allowed". 16 is "tested after 11"
@@ -45,8 +45,8 @@ write_turn register v c = cond (eqb register 0) (goes (on_addr v c)) (cond (eqb 
 -- ---- what is read: "0 ADDR, 1 CNTL, .. 3 state"; "Register 4 of block 3 reads the last GO's failure"
 
 abbrev pub register_of : ℕ → I2c → ℕ
-register_of register c = cond (eqb register 0) c.addr (cond (eqb register 1) c.cntl (cond (eqb register 3) (state_of c.phase) c.failure))
+register_of register c = cond (eqb register 0) c.addr (cond (eqb register 1) c.cntl (cond (eqb register 3) (state_of c.phase) (failure_number c.failure)))
 
 -- "Fresh state: all registers 0, I2C idle"; the fact "starts false"; without an answer "all is acknowledged"
 abbrev pub fresh : I2c
-fresh = record { addr = 0; cntl = 0; phase = Idle; acknowledged = false; answer = 3; failure = 0 }
+fresh = record { addr = 0; cntl = 0; phase = Idle; acknowledged = false; answer = 3; failure = None }

@@ -6,7 +6,7 @@ ghost use Rattle.i2c_code.specs.Code.{allowed, forbidden};
 ghost use Rattle.i2c.specs.I2c.{code, recalled, on_addr, on_cntl, on_answer, ran, register_of, fresh};
 ghost use Rattle.i2c.specs.How.{on_write};
 
-use i2c_code::{Code, Phase, allowed, ended, failed, forbidden, state};
+use i2c_code::{Code, Failure, Phase, allowed, ended, failed, forbidden, number, state};
 
 #[derive(Clone, Copy)]
 pub struct I2c {
@@ -17,8 +17,8 @@ pub struct I2c {
     pub acknowledged: bool,
     // how the slave answers the next GO: bit 0 the address, bit 1 the data
     pub answer: u8,
-    // of the last GO: 0 none, 1 address, 2 data
-    pub failure: u8,
+    // of the last GO
+    pub failure: Option<Failure>,
 }
 
 fn recalled(nobody: bool, code: Code) -> bool
@@ -37,52 +37,38 @@ impl I2c {
             phase: Phase::Idle,
             acknowledged: false,
             answer: 3,
-            failure: 0,
+            failure: None,
         }
     }
 
     fn write_addr(self, v: u8) -> I2c
         ensures { result ≡ on_addr v self }
     {
-        let phase = self.phase;
-        I2c {
-            addr: v,
-            cntl: self.cntl,
-            phase,
-            acknowledged: self.acknowledged,
-            answer: self.answer,
-            failure: self.failure,
-        }
+        I2c { addr: v, ..self }
     }
 
     fn write_cntl(self, v: u8) -> I2c
         ensures { result ≡ on_cntl v self }
     {
-        let phase = self.phase;
-        I2c {
-            addr: self.addr,
-            cntl: v,
-            phase,
-            acknowledged: self.acknowledged,
-            answer: self.answer,
-            failure: self.failure,
-        }
+        I2c { cntl: v, ..self }
     }
 
     // Whether a GO is allowed.
     pub fn permits(self) -> bool
         ensures { result ≡ allowed self.phase (code self) }
     {
-        let phase = self.phase;
-        allowed(phase, Code::of(self.addr, self.cntl))
+        allowed(self.phase, Code::of(self.addr, self.cntl))
     }
 
     // Whether a GO that is allowed is forbidden all the same.
     pub fn forbids(self) -> bool
         ensures { result ≡ forbidden self.phase self.acknowledged (code self) }
     {
-        let phase = self.phase;
-        forbidden(phase, self.acknowledged, Code::of(self.addr, self.cntl))
+        forbidden(
+            self.phase,
+            self.acknowledged,
+            Code::of(self.addr, self.cntl),
+        )
     }
 
     // A GO that is not refused.
@@ -91,15 +77,13 @@ impl I2c {
     {
         let code = Code::of(self.addr, self.cntl);
         let failure = failed(self.answer, code);
-        let nobody = failure == 1;
-        let answer = 3;
+        let nobody = failure == Some(Failure::Address);
         I2c {
-            addr: self.addr,
-            cntl: self.cntl,
             phase: ended(nobody, code),
             acknowledged: recalled(nobody, code),
-            answer,
+            answer: 3, // used up
             failure,
+            ..self
         }
     }
 
@@ -107,43 +91,28 @@ impl I2c {
     pub fn answer(self, v: u8) -> I2c
         ensures { result ≡ on_answer v self }
     {
-        let phase = self.phase;
-        I2c {
-            addr: self.addr,
-            cntl: self.cntl,
-            phase,
-            acknowledged: self.acknowledged,
-            answer: v,
-            failure: self.failure,
-        }
+        I2c { answer: v, ..self }
     }
 
     // A write of ADDR, CNTL or GO, which are 0 to 2, that is not refused.
     pub fn write(self, register: u64, v: u8) -> I2c
         ensures { result ≡ on_write register v self }
     {
-        if register == 0 {
-            return self.write_addr(v);
+        match register {
+            0 => self.write_addr(v),
+            1 => self.write_cntl(v),
+            _ => self.go(),
         }
-        if register == 1 {
-            return self.write_cntl(v);
-        }
-        self.go()
     }
 
     pub fn register(self, register: u64) -> u64
         ensures { result ≡ register_of register self }
     {
-        if register == 0 {
-            return self.addr as u64;
+        match register {
+            0 => self.addr as u64,
+            1 => self.cntl as u64,
+            3 => state(self.phase) as u64,
+            _ => number(self.failure) as u64,
         }
-        if register == 1 {
-            return self.cntl as u64;
-        }
-        if register == 3 {
-            let phase = self.phase;
-            return state(phase) as u64;
-        }
-        self.failure as u64
     }
 }

@@ -1,7 +1,9 @@
 -- The control code of a GO, as paper 01 has it, with the stop that paper 02 forbids (h) and the slave's answer (i).
 -- Assumes nothing.
-use Rattle.std.specs.Prelude.{ℕ, Bool, not, cond, ◌&&◌, ◌||◌, ltb, eqb}
+use Rattle.std.specs.Prelude.{ℕ, Bool, not, cond, ◌&&◌, ◌||◌, ltb, eqb, Option, None, Some}
 use Rattle.bits.specs.Bits.{bit}
+use Rattle.i2c_code.specs.declared.Failure.{Failure}
+use Rattle.i2c_code.specs.declared.Failure.TheVariants.{Address, Data}
 use Rattle.i2c_code.specs.declared.Phase.{Phase}
 use Rattle.i2c_code.specs.declared.Phase.TheVariants.{Idle, TxIdle, RxIdle}
 use Rattle.i2c_code.specs.declared.Code.{Code}
@@ -33,9 +35,20 @@ unfoldable pub forbidden : Phase → Bool → Code → Bool
 forbidden p acknowledged k = acknowledged && (eqb (state_of p) 2 && stop_alone k)
 
 -- the failure: "value bit 0 address acknowledged, bit 1 data acknowledged"; "The address bit matters only with START, the data bit only when
--- sending, and if both fail it is an address failure"; "0 none, 1 address, 2 data"
-abbrev pub failed : ℕ → Code → ℕ
-failed answer k = cond (k.start && not (bit 0 answer)) 1 (cond (k.byte && (not k.receive && not (bit 1 answer))) 2 0)
+-- sending, and if both fail it is an address failure"
+abbrev pub failed : ℕ → Code → Option Failure
+failed answer k =
+    cond (k.start && not (bit 0 answer)) (Some Address) (cond (k.byte && (not k.receive && not (bit 1 answer))) (Some Data) None)
+
+-- the number that is read of a failure: "0 none, 1 address, 2 data"
+abbrev pub failure_number : Option Failure → ℕ
+failure_number None = 0
+failure_number (Some Address) = 1
+failure_number (Some Data) = 2
+
+-- the state after a byte, by its direction: "TX idle for R/S 0, RX idle for 1"
+abbrev pub idle_in : Bool → Phase
+idle_in receive = cond receive RxIdle TxIdle
 
 -- by whether nobody was there: "An address not acknowledged ends idle; data not acknowledged ends as document 01 says for the code"
 -- "TX/RX 0: .. ends idle"

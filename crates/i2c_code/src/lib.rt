@@ -1,14 +1,21 @@
 // The control code of a GO: the states in which it is allowed, what the slave does not acknowledge of it, the state that it leaves.
 #![tactic(auto)]
 
-ghost use Rattle.std.specs.Prelude.{◌≡◌, cond, eqb};
-ghost use Rattle.i2c_code.specs.Code.{code_of, state_of, allowed, forbidden, failed, ended};
+ghost use Rattle.std.specs.Prelude.{◌≡◌};
+ghost use Rattle.i2c_code.specs.Code.{code_of, state_of, idle_in, allowed, forbidden, failed, ended, failure_number};
 
-#[derive(Clone, Copy)]
+#[derive(Clone, Copy, PartialEq, Eq)]
 pub enum Phase {
-    Idle,
-    TxIdle,
-    RxIdle,
+    Idle = 0,
+    TxIdle = 1,
+    RxIdle = 2,
+}
+
+// What the slave did not acknowledge of a GO.
+#[derive(Clone, Copy, PartialEq, Eq)]
+pub enum Failure {
+    Address = 1,
+    Data = 2,
 }
 
 #[derive(Clone, Copy)]
@@ -37,21 +44,17 @@ impl Code {
 pub fn state(phase: Phase) -> u8
     ensures { result ≡ state_of phase }
 {
-    match phase {
-        Phase::Idle => 0,
-        Phase::TxIdle => 1,
-        Phase::RxIdle => 2,
-    }
+    phase as u8
 }
 
-// Whether a byte can follow in the direction of the last one.
-fn matches(phase: Phase, receive: bool) -> bool
-    ensures { result ≡ eqb (state_of phase) (cond receive 2 1) }
+// The state after a byte in a direction: another one can follow in the same direction.
+fn idle_in(receive: bool) -> Phase
+    ensures { result ≡ idle_in receive }
 {
-    match phase {
-        Phase::Idle => false,
-        Phase::TxIdle => !receive,
-        Phase::RxIdle => receive,
+    if receive {
+        Phase::RxIdle
+    } else {
+        Phase::TxIdle
     }
 }
 
@@ -59,47 +62,49 @@ pub fn allowed(phase: Phase, code: Code) -> bool
     ensures { result ≡ allowed phase code }
 {
     if code.byte {
-        return !(code.receive & (code.ack & code.stop))
-            & (code.start | matches(phase, code.receive));
+        !(code.receive & (code.ack & code.stop)) & (code.start | (phase == idle_in(code.receive)))
+    } else {
+        !code.start & (code.stop & (phase != Phase::Idle))
     }
-    !code.start & (code.stop & (0 < state(phase)))
 }
 
 // A STOP alone after a byte that was received and acknowledged.
 pub fn forbidden(phase: Phase, acknowledged: bool, code: Code) -> bool
     ensures { result ≡ forbidden phase acknowledged code }
 {
-    acknowledged & (matches(phase, true) & (!code.byte & (!code.start & code.stop)))
+    acknowledged & ((phase == Phase::RxIdle) & (!code.byte & (!code.start & code.stop)))
 }
 
 // What the slave does not acknowledge of a GO.
-pub fn failed(answer: u8, code: Code) -> u8
+pub fn failed(answer: u8, code: Code) -> Option<Failure>
     ensures { result ≡ failed answer code }
 {
     if code.start & !(answer % 2 == 1) {
-        return 1;
+        return Some(Failure::Address);
     }
     if code.byte & (!code.receive & !(answer / 2 % 2 == 1)) {
-        return 2;
+        return Some(Failure::Data);
     }
-    0
+    None
+}
+
+// The number that is read of it: 0 where all was acknowledged.
+pub fn number(failure: Option<Failure>) -> u8
+    ensures { result ≡ failure_number failure }
+{
+    match failure {
+        None => 0,
+        Some(f) => f as u8,
+    }
 }
 
 // nobody: the address was not acknowledged.
 pub fn ended(nobody: bool, code: Code) -> Phase
     ensures { result ≡ ended nobody code }
 {
-    if nobody {
-        return Phase::Idle;
+    if nobody | (!code.byte | code.stop) {
+        Phase::Idle
+    } else {
+        idle_in(code.receive)
     }
-    if code.byte {
-        if code.stop {
-            return Phase::Idle;
-        }
-        if code.receive {
-            return Phase::RxIdle;
-        }
-        return Phase::TxIdle;
-    }
-    Phase::Idle
 }
