@@ -16,11 +16,14 @@ use Rattle.encoder.specs.declared.Encoder.{Encoder}
 use Rattle.encoder_count.proofs.Wrap.{pattern_lt, pattern_signed, wrap_small, wrap_fits}
 use Rattle.i2c_code.specs.declared.Phase.{Phase}
 use Rattle.i2c_code.specs.declared.Phase.TheVariants.{Idle, TxIdle, RxIdle}
+use Rattle.std.proofs.Common.{Option, None, Some}
+use Rattle.i2c_code.specs.declared.Failure.{Failure}
+use Rattle.i2c_code.specs.declared.Failure.TheVariants.{Address, Data}
 use Rattle.i2c.specs.declared.I2c.{I2c}
-use Rattle.i2c.specs.I2c.{state_of}
+use Rattle.i2c.specs.I2c.{state_of, failure_number}
 use Rattle.image_words.specs.Words.{FitsI2c, FitsEncoder}
-use Rattle.image_words.specs.How.{is_select, phase_of, i2c_number, i2c_of, is_i2c, encoder_number, encoder_of, is_encoder}
-use Rattle.image_words.proofs.Numbers.{state_small}
+use Rattle.image_words.specs.How.{is_select, phase_of, failure_of, i2c_number, i2c_of, is_i2c, encoder_number, encoder_of, is_encoder}
+use Rattle.image_words.proofs.Numbers.{state_small, failure_small}
 
 -- ---- a bit
 
@@ -156,6 +159,17 @@ state_image (suc zero) h = refl
 state_image (suc (suc zero)) h = refl
 state_image (suc (suc (suc v))) h = absurd (omega arith)
 
+failure_back : (f : Option Failure) → failure_of (failure_number f) ≡ f
+failure_back None = refl
+failure_back (Some Address) = refl
+failure_back (Some Data) = refl
+
+failure_image : (v : ℕ) → v < 3 → failure_number (failure_of v) ≡ v
+failure_image zero h = refl
+failure_image (suc zero) h = refl
+failure_image (suc (suc zero)) h = refl
+failure_image (suc (suc (suc v))) h = absurd (omega arith)
+
 module _ (a b c d f g n : ℕ) (e : n ≡ a + 2 ^ 8 * b + 2 ^ 16 * c + 2 ^ 24 * d + 2 ^ 32 * f + 2 ^ 40 * g)
     (ha : a < 256) (hb : b < 16) (hc : c < 3) (hd : d < 2) (hf : f < 4) (hg : g < 3) where
   i2c_a : n % 2 ^ 8 ≡ a
@@ -194,24 +208,25 @@ module _ (v : ℕ) (h : is_i2c v ≡ true) where
 
   i2c_fits : FitsI2c (i2c_of v)
   unfolding i2c_of
-  i2c_fits = (omega arith, i2c_first.0, i2c_passed.1.1.0, omega (arith, i2c_passed.1.1.1))
+  i2c_fits = (omega arith, i2c_first.0, i2c_passed.1.1.0)
 
 i2c_image : (v : ℕ) → v / 2 ^ 16 % 2 ^ 8 < 3 → v / 2 ^ 24 % 2 ^ 8 < 2 → v / 2 ^ 40 < 3 → i2c_number (i2c_of v) ≡ v
 unfolding i2c_number i2c_of
 i2c_image v state bit top =
     let same : v / 2 ^ 24 % 2 ≡ v / 2 ^ 24 % 2 ^ 8 % 2 = omega arith in
     let last : v / 2 ^ 40 % 2 ^ 8 ≡ v / 2 ^ 40 = omega arith in
-    rw (state_image (v / 2 ^ 16 % 2 ^ 8) state, same, num_bit (v / 2 ^ 24 % 2 ^ 8) bit, last, more v (2 ^ 8) (2 ^ 8) tt tt, more v (2 ^ 16) (2 ^ 8) tt tt, more v (2 ^ 24) (2 ^ 8) tt tt, more v (2 ^ 32) (2 ^ 8) tt tt)
+    rw (state_image (v / 2 ^ 16 % 2 ^ 8) state, same, num_bit (v / 2 ^ 24 % 2 ^ 8) bit, last, failure_image (v / 2 ^ 40) top, more v (2 ^ 8) (2 ^ 8) tt tt, more v (2 ^ 16) (2 ^ 8) tt tt, more v (2 ^ 24) (2 ^ 8) tt tt, more v (2 ^ 32) (2 ^ 8) tt tt)
     (omega arith)
 
 module _ (c : I2c) (f : FitsI2c c) where
   abbrev number : ℕ
-  number = c.addr + 2 ^ 8 * c.cntl + 2 ^ 16 * state_of c.phase + 2 ^ 24 * num c.acknowledged + 2 ^ 32 * c.answer + 2 ^ 40 * c.failure
+  number = c.addr + 2 ^ 8 * c.cntl + 2 ^ 16 * state_of c.phase + 2 ^ 24 * num c.acknowledged + 2 ^ 32 * c.answer + 2 ^ 40 * failure_number c.failure
 
-  i2c_last : number / 2 ^ 40 % 2 ^ 8 ≡ c.failure
+  i2c_last : failure_of (number / 2 ^ 40 % 2 ^ 8) ≡ c.failure
   i2c_last =
-      let g : number / 2 ^ 40 ≡ c.failure = i2c_g c.addr c.cntl (state_of c.phase) (num c.acknowledged) c.answer c.failure number refl f.0 f.1 (state_small c.phase) (one c.acknowledged) f.2 f.3 in
-      rw g (mod-eq_of_lt (omega (arith, f.3)))
+      let g : number / 2 ^ 40 ≡ failure_number c.failure = i2c_g c.addr c.cntl (state_of c.phase) (num c.acknowledged) c.answer (failure_number c.failure) number refl f.0 f.1 (state_small c.phase) (one c.acknowledged) f.2 (failure_small c.failure) in
+      let e : number / 2 ^ 40 % 2 ^ 8 ≡ failure_number c.failure = omega (arith, g, failure_small c.failure) in
+      rw e (failure_back c.failure)
 
   i2c_back : i2c_of (i2c_number c) ≡ c
   unfolding i2c_number i2c_of
@@ -219,20 +234,20 @@ module _ (c : I2c) (f : FitsI2c c) where
       let s = state_small c.phase in
       let o = one c.acknowledged in
       λ i. record {
-        addr = i2c_a c.addr c.cntl (state_of c.phase) (num c.acknowledged) c.answer c.failure number refl f.0 f.1 s o f.2 f.3 i;
-        cntl = i2c_b c.addr c.cntl (state_of c.phase) (num c.acknowledged) c.answer c.failure number refl f.0 f.1 s o f.2 f.3 i;
-        phase = (ap phase_of (i2c_c c.addr c.cntl (state_of c.phase) (num c.acknowledged) c.answer c.failure number refl f.0 f.1 s o f.2 f.3) ∙ phase_back c.phase) i;
-        acknowledged = is_one c.acknowledged (number / 2 ^ 24 % 2) (i2c_bit c.addr c.cntl (state_of c.phase) (num c.acknowledged) c.answer c.failure number refl f.0 f.1 s o f.2 f.3) i;
-        answer = i2c_f c.addr c.cntl (state_of c.phase) (num c.acknowledged) c.answer c.failure number refl f.0 f.1 s o f.2 f.3 i;
+        addr = i2c_a c.addr c.cntl (state_of c.phase) (num c.acknowledged) c.answer (failure_number c.failure) number refl f.0 f.1 s o f.2 (failure_small c.failure) i;
+        cntl = i2c_b c.addr c.cntl (state_of c.phase) (num c.acknowledged) c.answer (failure_number c.failure) number refl f.0 f.1 s o f.2 (failure_small c.failure) i;
+        phase = (ap phase_of (i2c_c c.addr c.cntl (state_of c.phase) (num c.acknowledged) c.answer (failure_number c.failure) number refl f.0 f.1 s o f.2 (failure_small c.failure)) ∙ phase_back c.phase) i;
+        acknowledged = is_one c.acknowledged (number / 2 ^ 24 % 2) (i2c_bit c.addr c.cntl (state_of c.phase) (num c.acknowledged) c.answer (failure_number c.failure) number refl f.0 f.1 s o f.2 (failure_small c.failure)) i;
+        answer = i2c_f c.addr c.cntl (state_of c.phase) (num c.acknowledged) c.answer (failure_number c.failure) number refl f.0 f.1 s o f.2 (failure_small c.failure) i;
         failure = i2c_last i;
       }
 
 pub i2c_number_lem : Number is_i2c i2c_number i2c_of FitsI2c
 unfolding i2c_number
 i2c_number_lem = record {
-  small = λ c f. i2c_small c.addr c.cntl (state_of c.phase) (num c.acknowledged) c.answer c.failure _ refl f.0 f.1 (state_small c.phase) (one c.acknowledged) f.2 f.3;
+  small = λ c f. i2c_small c.addr c.cntl (state_of c.phase) (num c.acknowledged) c.answer (failure_number c.failure) _ refl f.0 f.1 (state_small c.phase) (one c.acknowledged) f.2 (failure_small c.failure);
   back = i2c_back;
-  passes = λ c f. i2c_pass c.addr c.cntl (state_of c.phase) (num c.acknowledged) c.answer c.failure _ refl f.0 f.1 (state_small c.phase) (one c.acknowledged) f.2 f.3;
+  passes = λ c f. i2c_pass c.addr c.cntl (state_of c.phase) (num c.acknowledged) c.answer (failure_number c.failure) _ refl f.0 f.1 (state_small c.phase) (one c.acknowledged) f.2 (failure_small c.failure);
   image = λ v s h. i2c_image v (i2c_passed v h).0 (i2c_passed v h).1.0 (i2c_passed v h).1.1.1;
   fits = λ v s h. i2c_fits v h;
 }

@@ -5,13 +5,14 @@ use Prim.Native.Nat.{ℕ, ◌/◌, ◌%◌, ◌^◌, ◌<◌}
 use native.Mathlib.Omega.{arith}
 use lib.IntN.{ℤ}
 use Rattle.bits.specs.Bits.{bit}
-use Rattle.encoder_count.specs.Count.{pattern, signed}
+use Rattle.encoder_count.specs.Count.{signed}
 use Rattle.encoder.specs.declared.Encoder.{Encoder}
-use Rattle.encoder_count.proofs.Wrap.{pattern_lt}
 use Rattle.i2c_code.specs.declared.Phase.{Phase}
 use Rattle.i2c_code.specs.declared.Phase.TheVariants.{Idle, TxIdle, RxIdle}
-use Rattle.i2c.specs.declared.I2c.{I2c}
-use Rattle.i2c.specs.I2c.{state_of}
+use Rattle.std.proofs.Common.{Option, None, Some}
+use Rattle.i2c_code.specs.declared.Failure.{Failure}
+use Rattle.i2c_code.specs.declared.Failure.TheVariants.{Address, Data}
+use Rattle.i2c.specs.I2c.{state_of, failure_number}
 use Rattle.image_words.specs.Words.{FitsEncoder}
 use Rattle.image_words.specs.How.{encoder_number, low_number, encoder_of}
 
@@ -20,16 +21,15 @@ pub encoder_made : (v : ℕ) (z : ℤ) → z ≡ signed (v % 2 ^ 32)
 unfolding encoder_of
 encoder_made v z e = rw e
 
-pub pattern_below : (e : Encoder) (r : ℕ) → r ≡ pattern e.count → r < 4294967296
-pattern_below e r p = omega (arith, pattern_lt e.count)
-
 pub state_small : (p : Phase) → state_of p < 3
 state_small Idle = omega arith
 state_small TxIdle = omega arith
 state_small RxIdle = omega arith
 
-pub state_below : (c : I2c) (r : ℕ) → r ≡ state_of c.phase → r < 3
-state_below c r p = omega (arith, state_small c.phase)
+pub failure_small : (f : Option Failure) → failure_number f < 3
+failure_small None = omega arith
+failure_small (Some Address) = omega arith
+failure_small (Some Data) = omega arith
 
 pub low_number_lem : (e : Encoder) → FitsEncoder e → low_number e ≡ encoder_number e
 unfolding low_number encoder_number

@@ -1,13 +1,15 @@
 -- How the code has each block of a bank: in words, numbers of 8 bytes, least byte first. Its number, the block of a number, and whether a number is a block's.
 -- Assumes nothing.
-use Rattle.std.specs.Prelude.{ℕ, ◌+◌, ◌*◌, ◌/◌, ◌%◌, ◌^◌, Bool, cond, ◌&&◌, eqb, ltb}
+use Rattle.std.specs.Prelude.{ℕ, ◌+◌, ◌*◌, ◌/◌, ◌%◌, ◌^◌, Bool, cond, ◌&&◌, eqb, ltb, Option, None, Some}
 use Rattle.bits.specs.Bits.{bit, num}
 use Rattle.encoder_count.specs.Count.{pattern, signed}
 use Rattle.encoder.specs.declared.Encoder.{Encoder}
 use Rattle.i2c_code.specs.declared.Phase.{Phase}
 use Rattle.i2c_code.specs.declared.Phase.TheVariants.{Idle, TxIdle, RxIdle}
+use Rattle.i2c_code.specs.declared.Failure.{Failure}
+use Rattle.i2c_code.specs.declared.Failure.TheVariants.{Address, Data}
 use Rattle.i2c.specs.declared.I2c.{I2c}
-use Rattle.i2c.specs.I2c.{state_of}
+use Rattle.i2c.specs.I2c.{state_of, failure_number}
 
 -- ---- SELECT
 
@@ -19,9 +21,12 @@ is_select v = ltb v (2 ^ 40)
 abbrev pub phase_of : ℕ → Phase
 phase_of n = cond (eqb n 0) Idle (cond (eqb n 1) TxIdle RxIdle)
 
+abbrev pub failure_of : ℕ → Option Failure
+failure_of n = cond (eqb n 1) (Some Address) (cond (eqb n 2) (Some Data) None)
+
 unfoldable pub i2c_number : I2c → ℕ
 i2c_number c =
-    c.addr + 2 ^ 8 * c.cntl + 2 ^ 16 * state_of c.phase + 2 ^ 24 * num c.acknowledged + 2 ^ 32 * c.answer + 2 ^ 40 * c.failure
+    c.addr + 2 ^ 8 * c.cntl + 2 ^ 16 * state_of c.phase + 2 ^ 24 * num c.acknowledged + 2 ^ 32 * c.answer + 2 ^ 40 * failure_number c.failure
 
 unfoldable pub i2c_of : ℕ → I2c
 i2c_of v = record {
@@ -30,7 +35,7 @@ i2c_of v = record {
   phase = phase_of (v / 2 ^ 16 % 2 ^ 8);
   acknowledged = bit 24 v;
   answer = v / 2 ^ 32 % 2 ^ 8;
-  failure = v / 2 ^ 40 % 2 ^ 8;
+  failure = failure_of (v / 2 ^ 40 % 2 ^ 8);
 }
 
 abbrev pub is_i2c : ℕ → Bool

@@ -7,14 +7,14 @@ use Rattle.numbers.specs.Bytes.{le_bytes}
 use Rattle.encoder_count.specs.Count.{pattern}
 use Rattle.encoder.specs.declared.Encoder.{Encoder}
 use Rattle.i2c.specs.declared.I2c.{I2c}
-use Rattle.i2c.specs.I2c.{state_of}
+use Rattle.i2c.specs.I2c.{state_of, failure_number}
 
 -- the I2C: ADDR, CNTL, the state, whether the last received byte was acknowledged, the slave's answer, the failure
 abbrev pub i2c_bytes : I2c → List ℕ
-i2c_bytes c = c.addr ∷ c.cntl ∷ state_of c.phase ∷ num c.acknowledged ∷ c.answer ∷ c.failure ∷ 0 ∷ 0 ∷ []
+i2c_bytes c = c.addr ∷ c.cntl ∷ state_of c.phase ∷ num c.acknowledged ∷ c.answer ∷ failure_number c.failure ∷ 0 ∷ 0 ∷ []
 
 abbrev pub FitsI2c : I2c → Type 0
-FitsI2c c = (c.addr < 256) × (c.cntl < 16) × (c.answer < 4) × (c.failure < 3)
+FitsI2c c = (c.addr < 256) × (c.cntl < 16) × (c.answer < 4)
 
 -- an encoder: the count's pattern, CNFG, STAT, the pins, whether they were seen
 abbrev pub encoder_bytes : Encoder → List ℕ

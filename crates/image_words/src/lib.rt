@@ -3,13 +3,13 @@
 
 ghost use Rattle.std.specs.Prelude.{◌≡◌, ◌<◌};
 ghost use Rattle.encoder_count.specs.Count.{pattern};
-ghost use Rattle.i2c.specs.I2c.{state_of};
-ghost use Rattle.image_words.specs.How.{phase_of, i2c_number, i2c_of, is_i2c, low_number, encoder_of, is_encoder};
+ghost use Rattle.i2c.specs.I2c.{state_of, failure_number};
+ghost use Rattle.image_words.specs.How.{phase_of, failure_of, i2c_number, i2c_of, is_i2c, low_number, encoder_of, is_encoder};
 
 use bits::number;
 use encoder::Encoder;
 use i2c::I2c;
-use i2c_code::Phase;
+use i2c_code::{Failure, Phase};
 
 // ---- an encoder
 
@@ -20,6 +20,7 @@ fn pattern(e: Encoder) -> u64
 }
 
 // Of an encoder in range, whose CNFG and STAT are bytes.
+#[tactic(auto, unfolding(crate::specs::How::low_number))]
 pub fn encoder_number(e: Encoder) -> u64
     ensures { result ≡ low_number e }
 {
@@ -53,13 +54,21 @@ pub fn is_encoder(v: u64) -> bool
 fn phase_of(n: u64) -> Phase
     ensures { result ≡ phase_of n }
 {
-    if n == 0 {
-        return Phase::Idle;
+    match n {
+        0 => Phase::Idle,
+        1 => Phase::TxIdle,
+        _ => Phase::RxIdle,
     }
-    if n == 1 {
-        return Phase::TxIdle;
+}
+
+fn failure_of(n: u64) -> Option<Failure>
+    ensures { result ≡ failure_of n }
+{
+    match n {
+        1 => Some(Failure::Address),
+        2 => Some(Failure::Data),
+        _ => None,
     }
-    Phase::RxIdle
 }
 
 fn state(c: I2c) -> u64
@@ -68,6 +77,13 @@ fn state(c: I2c) -> u64
     c.register(3)
 }
 
+fn failure(c: I2c) -> u64
+    ensures { (result ≡ failure_number c.failure) × (result < 3) }
+{
+    c.register(4)
+}
+
+#[tactic(auto, unfolding(crate::specs::How::i2c_number))]
 pub fn i2c_number(c: I2c) -> u64
     ensures { result ≡ i2c_number c }
 {
@@ -76,9 +92,10 @@ pub fn i2c_number(c: I2c) -> u64
         + 65536 * state(c)
         + 16777216 * (number(c.acknowledged) as u64)
         + 4294967296 * (c.answer as u64)
-        + 1099511627776 * (c.failure as u64)
+        + 1099511627776 * failure(c)
 }
 
+#[tactic(auto, unfolding(crate::specs::How::i2c_of))]
 pub fn i2c_of(v: u64) -> I2c
     ensures { result ≡ i2c_of v }
 {
@@ -88,7 +105,7 @@ pub fn i2c_of(v: u64) -> I2c
         phase: phase_of((v >> 16) % 256),
         acknowledged: (v >> 24) % 2 == 1,
         answer: ((v >> 32) % 256) as u8,
-        failure: ((v >> 40) % 256) as u8,
+        failure: failure_of((v >> 40) % 256),
     }
 }
 
