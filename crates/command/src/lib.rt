@@ -5,7 +5,6 @@ ghost use Rattle.std.specs.Prelude.{◌≡◌};
 ghost use Rattle.outside.specs.Counts.{IsPrefixLen};
 ghost use Rattle.command.specs.Asked.{alone_of, of_two, command_of};
 
-use decimal::Decimal;
 use rate_print::same;
 use std::rt::Env;
 
@@ -105,7 +104,7 @@ RATE is in millihertz, thousandths of a hertz: 40125 is 40.125 Hz. TOL is in mil
 }
 
 // Argument i as a number. One that does not fit the buffer is no number, since `arg` then gives no byte of it.
-fn number(rt: &impl Env, i: usize) -> Decimal {
+fn number(rt: &impl Env, i: usize) -> Option<u64> {
     let mut word = outside::buffer();
     let n = outside::arg(rt, i, &mut word);
     decimal::read(&word[..n])

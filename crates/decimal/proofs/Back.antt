@@ -9,7 +9,7 @@ use lib.Dec.{ltb}
 use lib.ListN.{length, get_or, length-append, get_or-append}
 use borrow.Author.Tests.{lt-ltb, le-ltb, le-leb, ltb-true, ltb-false}
 use Rattle.laws.proofs.Truth.{both_true}
-use Rattle.decimal.specs.declared.Decimal.TheVariants.{Number}
+use Rattle.std.proofs.Common.{Some}
 use Rattle.decimal.specs.Decimal.{is_digit, are_digits, value_from, decimal_of}
 use Rattle.decimal.specs.Digits.{digits_within, digits_of}
 
@@ -136,7 +136,7 @@ first_digit n = (by_digits Leads leads_one leads_more n).1
 
 -- ---- the reader of decimal::read gives the number back
 
-pub decimal_back : (n : ℕ) → n < 2 ^ 64 → decimal_of (digits_of n) ≡ Number n
+pub decimal_back : (n : ℕ) → n < 2 ^ 64 → decimal_of (digits_of n) ≡ Some n
 decimal_back n h = rw (lt-ltb 0 (length (digits_of n)) (some_digits n), are_digits_lem n, value_back n, lt-ltb n (2 ^ 64) h)
 
 -- ---- where the digits end: before the first byte that is none

@@ -1,48 +1,34 @@
 // Numbers in decimal, read as a program's arguments are and put among the bytes that it prints.
 #![tactic(auto)]
 
-ghost use Rattle.std.specs.Prelude.{◌≡◌, [], ◌∷◌, ◌+◌, ◌<◌};
-ghost use Rattle.decimal.specs.Decimal.{decimal_of};
+ghost use Rattle.std.specs.Prelude.{◌≡◌, [], ◌∷◌, ◌+◌, ◌<◌, true, false, MatchOption};
+ghost use Rattle.decimal.specs.Decimal.{is_digit, decimal_of};
 ghost use Rattle.decimal.specs.Digits.{digits_of};
 ghost use Rattle.decimal.specs.Put.{Put};
 
-#[derive(Clone, Copy)]
-pub enum Decimal {
-    Number(u64),
-    NoNumber,
-}
-
-fn wide(b: u8) -> u64
-    ensures { (result ≡ b) × (result < 256) }
+// The digit that a byte is.
+fn digit(b: u8) -> Option<u64>
+    ensures { MatchOption result (is_digit b ≡ false) (λ d. (is_digit b ≡ true) × (b ≡ 48 + d) × (d < 10)) }
 {
-    b as u64
+    match b {
+        b'0'..=b'9' => Some(u64::from(b - b'0')),
+        _ => None,
+    }
 }
 
 // The number that `text` says: one digit or more and nothing else, below 2^64.
-pub fn read(text: &[u8]) -> Decimal
+pub fn read(text: &[u8]) -> Option<u64>
     ensures { result ≡ decimal_of text.now }
 {
-    if text.len() == 0 {
-        return Decimal::NoNumber;
+    if text.is_empty() {
+        return None;
     }
     let mut value: u64 = 0;
-    let mut i: usize = 0;
-    while i < text.len() {
-        let b = wide(text[i]);
-        if b < 48 {
-            return Decimal::NoNumber;
-        }
-        if 57 < b {
-            return Decimal::NoNumber;
-        }
-        let digit = b - 48;
-        if (18_446_744_073_709_551_615 - digit) / 10 < value {
-            return Decimal::NoNumber;
-        }
-        value = 10 * value + digit;
-        i += 1;
+    for &b in text {
+        let digit = digit(b)?;
+        value = value.checked_mul(10)?.checked_add(digit)?;
     }
-    Decimal::Number(value)
+    Some(value)
 }
 
 // One byte, where there is room for it.

@@ -8,8 +8,7 @@ use borrow.Author.Tests.{eqb-true, eq-eqb}
 use Rattle.laws.proofs.Truth.{both_true}
 use Rattle.laws.proofs.Cases.{taken, left}
 use Rattle.outside.specs.Counts.{IsPrefixLen}
-use Rattle.decimal.specs.declared.Decimal.{Decimal}
-use Rattle.decimal.specs.declared.Decimal.TheVariants.{Number, NoNumber}
+use Rattle.std.proofs.Common.{Option, Some, None}
 use Rattle.decimal.specs.Put.{Put}
 use Rattle.decimal.proofs.Puts.{put_nothing}
 use Rattle.rate.specs.declared.Rule.{Rule}
@@ -61,27 +60,27 @@ module _ {A : Type 0} (r : Bool) (s t : List ℕ) (q x y : A) (e : Tells r s t) 
 
 -- ---- an answer by cases
 
-module _ (s : Bool) (a b : Decimal) (out out' : List ℕ) (n : ℕ) where
-  pub no_rate : a ≡ NoNumber → PairSaid (rule_of s) NoNumber b out out' n → PairSaid (rule_of s) a b out out' n
+module _ (s : Bool) (a b : Option ℕ) (out out' : List ℕ) (n : ℕ) where
+  pub no_rate : a ≡ None → PairSaid (rule_of s) None b out out' n → PairSaid (rule_of s) a b out out' n
   no_rate e x = rw e x
 
-  pub no_tol : (f : ℕ) → a ≡ Number f → b ≡ NoNumber → PairSaid (rule_of s) (Number f) NoNumber out out' n → PairSaid (rule_of s) a b out out' n
+  pub no_tol : (f : ℕ) → a ≡ Some f → b ≡ None → PairSaid (rule_of s) (Some f) None out out' n → PairSaid (rule_of s) a b out out' n
   no_tol f e g x = rw (e, g) x
 
-  pub no_choice : a ≡ NoNumber → RateSaid (rule_of s) NoNumber b out out' n → RateSaid (rule_of s) a b out out' n
+  pub no_choice : a ≡ None → RateSaid (rule_of s) None b out out' n → RateSaid (rule_of s) a b out out' n
   no_choice e x = rw e x
 
-  pub no_x : (c : ℕ) → a ≡ Number c → b ≡ NoNumber → RateSaid (rule_of s) (Number c) NoNumber out out' n → RateSaid (rule_of s) a b out out' n
+  pub no_x : (c : ℕ) → a ≡ Some c → b ≡ None → RateSaid (rule_of s) (Some c) None out out' n → RateSaid (rule_of s) a b out out' n
   no_x c e g x = rw (e, g) x
 
   module _ (t : Bool) (e : s ≡ t) where
-    pub found : (f tol : ℕ) (r : Found) → a ≡ Number f → b ≡ Number tol → Answer (rule_of t) f tol r → Put out 0 (found_text r) out' n → PairSaid (rule_of s) a b out out' n
+    pub found : (f tol : ℕ) (r : Found) → a ≡ Some f → b ≡ Some tol → Answer (rule_of t) f tol r → Put out 0 (found_text r) out' n → PairSaid (rule_of s) a b out out' n
     found f tol r g h x y = rw (e, g, h) (r, x, y)
 
-    pub rated : (c x : ℕ) (r : Rated) → a ≡ Number c → b ≡ Number x → rated_numbers r ≡ rate_of (rule_of t) c x → Put out 0 (rated_text r) out' n → RateSaid (rule_of s) a b out out' n
+    pub rated : (c x : ℕ) (r : Rated) → a ≡ Some c → b ≡ Some x → rated_numbers r ≡ rate_of (rule_of t) c x → Put out 0 (rated_text r) out' n → RateSaid (rule_of s) a b out out' n
     rated c x r g h i y = rw (e, g, h) (r, i, y)
 
-module _ (q : Question) (a b : Decimal) (out out' : List ℕ) (n : ℕ) where
+module _ (q : Question) (a b : Option ℕ) (out out' : List ℕ) (n : ℕ) where
   pub says_pair : (s : Bool) → q ≡ Pair s → PairSaid (rule_of s) a b out out' n → AnswerSaid q a b out out' n
   says_pair s e x = rw e x
 
@@ -91,12 +90,12 @@ module _ (q : Question) (a b : Decimal) (out out' : List ℕ) (n : ℕ) where
   pub says_nothing : q ≡ Other → out' ≡ out → n ≡ 0 → AnswerSaid q a b out out' n
   says_nothing e o z = rw (e, o, z) (put_nothing out 0)
 
-pub pair_counts : (u : Rule) (a b : Decimal) (out out' : List ℕ) (n : ℕ) → PairSaid u a b out out' n → IsPrefixLen n out'
-pair_counts u NoNumber b out out' n x = put_counts out out' _ n x
-pair_counts u (Number f) NoNumber out out' n x = put_counts out out' _ n x
-pair_counts u (Number f) (Number tol) out out' n x = put_counts out out' _ n x.2
+pub pair_counts : (u : Rule) (a b : Option ℕ) (out out' : List ℕ) (n : ℕ) → PairSaid u a b out out' n → IsPrefixLen n out'
+pair_counts u None b out out' n x = put_counts out out' _ n x
+pair_counts u (Some f) None out out' n x = put_counts out out' _ n x
+pair_counts u (Some f) (Some tol) out out' n x = put_counts out out' _ n x.2
 
-pub rate_counts : (u : Rule) (a b : Decimal) (out out' : List ℕ) (n : ℕ) → RateSaid u a b out out' n → IsPrefixLen n out'
-rate_counts u NoNumber b out out' n x = put_counts out out' _ n x
-rate_counts u (Number c) NoNumber out out' n x = put_counts out out' _ n x
-rate_counts u (Number c) (Number y) out out' n x = put_counts out out' _ n x.2
+pub rate_counts : (u : Rule) (a b : Option ℕ) (out out' : List ℕ) (n : ℕ) → RateSaid u a b out out' n → IsPrefixLen n out'
+rate_counts u None b out out' n x = put_counts out out' _ n x
+rate_counts u (Some c) None out out' n x = put_counts out out' _ n x
+rate_counts u (Some c) (Some y) out out' n x = put_counts out out' _ n x.2

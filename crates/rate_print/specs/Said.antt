@@ -1,8 +1,6 @@
 -- What the program prints to `pwm`, `spi`, `pwm-rate` and `spi-rate` with two words. Assumes nothing.
-use Rattle.std.specs.Prelude.{◌≡◌, Bool, true, false, ◌&&◌, cond, List, [], ◌∷◌, ℕ, eqb}
+use Rattle.std.specs.Prelude.{◌≡◌, Bool, true, false, ◌&&◌, cond, List, [], ◌∷◌, ℕ, eqb, Option, Some, None}
 use Rattle.decimal.specs.Ascii.{ascii}
-use Rattle.decimal.specs.declared.Decimal.{Decimal}
-use Rattle.decimal.specs.declared.Decimal.TheVariants.{Number, NoNumber}
 use Rattle.decimal.specs.Put.{Put}
 use Rattle.rate.specs.declared.Rule.{Rule}
 use Rattle.rate.specs.declared.Found.{Found}
@@ -44,18 +42,18 @@ abbrev pub rated_text : Rated → List ℕ
 rated_text (Ratio clock period) = rate_text clock period
 rated_text (Unset n) = refused_text n
 
-abbrev pub PairSaid : Rule → Decimal → Decimal → List ℕ → List ℕ → ℕ → Type 0
-PairSaid u NoNumber b out out' n = Put out 0 (no_number_text (ascii "RATE")) out' n
-PairSaid u (Number f) NoNumber out out' n = Put out 0 (no_number_text (ascii "TOL")) out' n
-PairSaid u (Number f) (Number tol) out out' n = (r : Found) × Answer u f tol r × Put out 0 (found_text r) out' n
+abbrev pub PairSaid : Rule → Option ℕ → Option ℕ → List ℕ → List ℕ → ℕ → Type 0
+PairSaid u None b out out' n = Put out 0 (no_number_text (ascii "RATE")) out' n
+PairSaid u (Some f) None out out' n = Put out 0 (no_number_text (ascii "TOL")) out' n
+PairSaid u (Some f) (Some tol) out out' n = (r : Found) × Answer u f tol r × Put out 0 (found_text r) out' n
 
-abbrev pub RateSaid : Rule → Decimal → Decimal → List ℕ → List ℕ → ℕ → Type 0
-RateSaid u NoNumber b out out' n = Put out 0 (no_number_text (ascii "CHOICE")) out' n
-RateSaid u (Number c) NoNumber out out' n = Put out 0 (no_number_text (ascii "X")) out' n
-RateSaid u (Number c) (Number x) out out' n = (r : Rated) × (rated_numbers r ≡ rate_of u c x) × Put out 0 (rated_text r) out' n
+abbrev pub RateSaid : Rule → Option ℕ → Option ℕ → List ℕ → List ℕ → ℕ → Type 0
+RateSaid u None b out out' n = Put out 0 (no_number_text (ascii "CHOICE")) out' n
+RateSaid u (Some c) None out out' n = Put out 0 (no_number_text (ascii "X")) out' n
+RateSaid u (Some c) (Some x) out out' n = (r : Rated) × (rated_numbers r ≡ rate_of u c x) × Put out 0 (rated_text r) out' n
 
 -- to any other word nothing
-abbrev pub AnswerSaid : Question → Decimal → Decimal → List ℕ → List ℕ → ℕ → Type 0
+abbrev pub AnswerSaid : Question → Option ℕ → Option ℕ → List ℕ → List ℕ → ℕ → Type 0
 AnswerSaid (Pair s) a b out out' n = PairSaid (rule_of s) a b out out' n
 AnswerSaid (Rate s) a b out out' n = RateSaid (rule_of s) a b out out' n
 AnswerSaid Other a b out out' n = Put out 0 [] out' n

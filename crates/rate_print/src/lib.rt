@@ -6,7 +6,6 @@ ghost use Rattle.outside.specs.Counts.{IsPrefixLen};
 ghost use Rattle.decimal.specs.Put.{Put};
 ghost use Rattle.rate_print.specs.Said.{question_of, rule_of, found_text, rated_text, PairSaid, RateSaid, AnswerSaid};
 
-use decimal::Decimal;
 use rate::{Found, Rated};
 
 // What the first argument asks for, of PWM or SPI.
@@ -60,13 +59,13 @@ fn say_rated(text: &mut [u8], rated: Rated) -> usize
     }
 }
 
-fn say_pair(text: &mut [u8], spi: bool, a: Decimal, b: Decimal) -> usize
+fn say_pair(text: &mut [u8], spi: bool, a: Option<u64>, b: Option<u64>) -> usize
     ensures { PairSaid (rule_of spi) a b text.old text.new result }
 {
-    let Decimal::Number(rate) = a else {
+    let Some(rate) = a else {
         return text_answers::no_number_text(text, b"RATE");
     };
-    let Decimal::Number(tolerance) = b else {
+    let Some(tolerance) = b else {
         return text_answers::no_number_text(text, b"TOL");
     };
     if spi {
@@ -75,13 +74,13 @@ fn say_pair(text: &mut [u8], spi: bool, a: Decimal, b: Decimal) -> usize
     say_found(text, rate::find_pwm(rate, tolerance))
 }
 
-fn say_rate(text: &mut [u8], spi: bool, a: Decimal, b: Decimal) -> usize
+fn say_rate(text: &mut [u8], spi: bool, a: Option<u64>, b: Option<u64>) -> usize
     ensures { RateSaid (rule_of spi) a b text.old text.new result }
 {
-    let Decimal::Number(choice) = a else {
+    let Some(choice) = a else {
         return text_answers::no_number_text(text, b"CHOICE");
     };
-    let Decimal::Number(x) = b else {
+    let Some(x) = b else {
         return text_answers::no_number_text(text, b"X");
     };
     if spi {
@@ -91,7 +90,7 @@ fn say_rate(text: &mut [u8], spi: bool, a: Decimal, b: Decimal) -> usize
 }
 
 // Nothing where the word asks for no rate.
-pub fn say(text: &mut [u8], question: Question, a: Decimal, b: Decimal) -> usize
+pub fn say(text: &mut [u8], question: Question, a: Option<u64>, b: Option<u64>) -> usize
     ensures answer_said { AnswerSaid question a b text.old text.new result }
     ensures prefix_len { IsPrefixLen result text.new }
 {

@@ -8,7 +8,6 @@ ghost use Rattle.live_state.specs.How.{live_of, Good};
 ghost use Rattle.stream_print.specs.Shown.{arrived, shown_of, last_of, no_edition};
 ghost use Rattle.stream_print.specs.How.{Ready};
 
-use decimal::Decimal;
 use edition::Edition;
 use live_state::Stream;
 use printed::Printed;
@@ -126,7 +125,7 @@ pub fn stream_input(rt: &(impl Env + Input + Print), text: &mut [u8]) -> io::Res
 {
     let mut word = outside::buffer();
     let n = outside::arg(rt, 2, &mut word);
-    let Decimal::Number(number) = decimal::read(&word[..n]) else {
+    let Some(number) = decimal::read(&word[..n]) else {
         return Ok(Printed {
             size: text_answers::no_number_text(text, b"EDITION"),
             refused: true,

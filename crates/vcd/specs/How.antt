@@ -1,9 +1,7 @@
 -- How the reader gets there: a text cut into lines, what each line says, and what it makes of the reader. No public promise rests on this.
 -- Assumes nothing.
-use Rattle.std.specs.Prelude.{Bool, true, false, ◌&&◌, ◌||◌, not, cond, ℕ, ◌+◌, ◌-◌, ◌*◌, ◌/◌, ◌%◌, eqb, ltb, leb, length, get_or, set, drop, replicate}
+use Rattle.std.specs.Prelude.{Bool, true, false, ◌&&◌, ◌||◌, not, cond, ℕ, ◌+◌, ◌-◌, ◌*◌, ◌/◌, ◌%◌, eqb, ltb, leb, length, get_or, set, drop, replicate, Option, Some, None}
 use mathlib.Core.List.{List, [], ◌∷◌, ◌++◌, foldl}
-use Rattle.decimal.specs.declared.Decimal.{Decimal}
-use Rattle.decimal.specs.declared.Decimal.TheVariants.{Number, NoNumber}
 use Rattle.decimal.specs.Decimal.{decimal_of}
 use Rattle.vcd.specs.declared.Line.{Line}
 use Rattle.vcd.specs.declared.Line.TheVariants.{Fixed, Var, Unknown, Time, Change, Other}
@@ -40,9 +38,9 @@ head_of s =
     (cond (same s (fixed_at 5)) (Fixed 5) (var_with s (wire_of (get_or s 12 0))))))))
 
 -- a line that begins with "#": "no leading zero"
-abbrev pub number_of : Decimal → Line
-number_of (Number t) = Time t
-number_of NoNumber = Other
+abbrev pub number_of : Option ℕ → Line
+number_of (Some t) = Time t
+number_of None = Other
 
 unfoldable pub time_of : List ℕ → Line
 time_of s = cond (eqb (get_or s 1 0) 48 && ltb 2 (length s)) Other (number_of (decimal_of (drop 1 s)))

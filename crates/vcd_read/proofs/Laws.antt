@@ -9,8 +9,7 @@ use lib.Dec.{eqb, ltb}
 use lib.ListN.{length, take, drop, get_or, length-drop, drop_of_length-le, get_or-eq_default}
 use lib.Seq.{drop-cons, take_all}
 use borrow.Author.Tests.{eq-eqb, ne_eqb, lt-ltb, le-ltb, ltb-true}
-use Rattle.decimal.specs.declared.Decimal.{Decimal}
-use Rattle.decimal.specs.declared.Decimal.TheVariants.{Number, NoNumber}
+use Rattle.std.proofs.Common.{Option, Some, None}
 use Rattle.decimal.specs.Decimal.{decimal_of}
 use Rattle.vcd.specs.declared.Line.{Line}
 use Rattle.vcd.specs.declared.Line.TheVariants.{Fixed, Var, Unknown, Time, Change, Other}
@@ -113,11 +112,11 @@ one_digit s r h e = e ∙ sym (rw (le-ltb 2 (length s) h) (go (eqb (get_or s 1 0
 after_first : (s : List ℕ) → decimal_of (take (length s - 1) (drop 1 s)) ≡ decimal_of (drop 1 s)
 after_first s = ap decimal_of (take_all (length s - 1) (drop 1 s) (omega (arith, length-drop 1 s)))
 
-module _ (d : Decimal) (s : List ℕ) (e : d ≡ decimal_of (take (length s - 1) (drop 1 s))) where
-  pub a_number : (t : ℕ) → d ≡ Number t → Time t ≡ number_of (decimal_of (drop 1 s))
+module _ (d : Option ℕ) (s : List ℕ) (e : d ≡ decimal_of (take (length s - 1) (drop 1 s))) where
+  pub a_number : (t : ℕ) → d ≡ Some t → Time t ≡ number_of (decimal_of (drop 1 s))
   a_number t f = sym (ap number_of (sym (e ∙ after_first s) ∙ f))
 
-  pub no_number : d ≡ NoNumber → Other ≡ number_of (decimal_of (drop 1 s))
+  pub no_number : d ≡ None → Other ≡ number_of (decimal_of (drop 1 s))
   no_number f = sym (ap number_of (sym (e ∙ after_first s) ∙ f))
 
 -- ---- lines
@@ -177,9 +176,9 @@ bounded_head s =
     (bounded_if (same s (fixed_at 4)) (Fixed 4) _ (λ q. omega arith)
     (bounded_if (same s (fixed_at 5)) (Fixed 5) _ (λ q. omega arith) (bounded_var s (wire_of (get_or s 12 0))))))))
 
-bounded_number : (d : Decimal) → Bounded (number_of d)
-bounded_number (Number t) = tt
-bounded_number NoNumber = tt
+bounded_number : (d : Option ℕ) → Bounded (number_of d)
+bounded_number (Some t) = tt
+bounded_number None = tt
 
 bounded_time : (s : List ℕ) → Bounded (time_of s)
 unfolding time_of

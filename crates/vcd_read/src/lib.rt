@@ -6,7 +6,6 @@ ghost use Rattle.decimal.specs.Decimal.{decimal_of};
 ghost use Rattle.vcd.specs.How.{same as same_bytes, wire_of, var_with, head_of, number_of, time_of, value_of, change_in, line_of};
 ghost use Rattle.vcd_read.specs.Bounds.{Bounded};
 
-use decimal::Decimal;
 use vcd::Line;
 
 fn same(a: &[u8], b: &[u8]) -> bool
@@ -90,10 +89,9 @@ fn number(s: &[u8]) -> Line
     requires { 1 ≤ length s.now }
     ensures { result ≡ number_of (decimal_of (drop 1 s.now)) }
 {
-    let d = decimal::read(&s[1..]);
-    match d {
-        Decimal::Number(t) => Line::Time(t),
-        Decimal::NoNumber => Line::Other,
+    match decimal::read(&s[1..]) {
+        Some(t) => Line::Time(t),
+        None => Line::Other,
     }
 }
 

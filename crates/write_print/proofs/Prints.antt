@@ -9,8 +9,7 @@ use lib.ListN.{length, drop, length-append}
 use borrow.Author.Tests.{le-ltb, ltb-false, eqb-true, eqb-false}
 use Rattle.decimal.specs.Ascii.{ascii}
 use Rattle.outside.specs.Counts.{IsPrefixLen}
-use Rattle.decimal.specs.declared.Decimal.{Decimal}
-use Rattle.decimal.specs.declared.Decimal.TheVariants.{Number, NoNumber}
+use Rattle.std.proofs.Common.{Option, Some, None}
 use Rattle.decimal.specs.Digits.{digits_of}
 use Rattle.decimal.specs.Put.{Put}
 use Rattle.decimal.proofs.Back.{twenty_digits}
@@ -94,7 +93,7 @@ module _ (edition : ℕ) (notes run out mid out' : List ℕ) (p : Printed) (room
   unfolding Small
   few = subst (Small (32_768 + length run / 16)) (sym is) (small edition notes run (length out))
 
-  pub log_printed : WritePrinted (Number edition) notes run out' p
+  pub log_printed : WritePrinted (Some edition) notes run out' p
   unfolding over
   log_printed = rw same (by (eqb w.refused 0) refl)
     where
@@ -118,14 +117,14 @@ none_short =
     let most = digits_of 18_446_744_073_709_551_615 in
     omega (arith, length-append edition_word (line (ascii " is no decimal number from 0 to " ++ most)), length-append (ascii " is no decimal number from 0 to " ++ most) (10 ∷ []), length-append (ascii " is no decimal number from 0 to ") most, twenty_digits 18_446_744_073_709_551_615 (omega arith))
 
-pub no_number_printed : (edition : Decimal) (notes run out out' : List ℕ) (n : ℕ) → edition ≡ NoNumber → 32768 ≤ length out → Put out 0 (no_number_text edition_word) out' n
+pub no_number_printed : (edition : Option ℕ) (notes run out out' : List ℕ) (n : ℕ) → edition ≡ None → 32768 ≤ length out → Put out 0 (no_number_text edition_word) out' n
     → WritePrinted edition notes run out' (record { size = n; refused = true })
 no_number_printed edition notes run out out' n e room x = rw e
     (record { counts = put_counts out out' (no_number_text edition_word) n x; bytes = (put_whole out (no_number_text edition_word) out' n x (omega (arith, none_short))).1; where_to = refl })
 
-pub number_printed : (edition : Decimal) (k : ℕ) (notes run out' : List ℕ) (p : Printed) → edition ≡ Number k → WritePrinted (Number k) notes run out' p → WritePrinted edition notes run out' p
+pub number_printed : (edition : Option ℕ) (k : ℕ) (notes run out' : List ℕ) (p : Printed) → edition ≡ Some k → WritePrinted (Some k) notes run out' p → WritePrinted edition notes run out' p
 number_printed edition k notes run out' p e h = rw e h
 
-pub some_counts : (edition : Decimal) (notes run out' : List ℕ) (p : Printed) → WritePrinted edition notes run out' p → IsPrefixLen p.size out'
-some_counts NoNumber notes run out' p h = h.counts
-some_counts (Number k) notes run out' p h = h.counts
+pub some_counts : (edition : Option ℕ) (notes run out' : List ℕ) (p : Printed) → WritePrinted edition notes run out' p → IsPrefixLen p.size out'
+some_counts None notes run out' p h = h.counts
+some_counts (Some k) notes run out' p h = h.counts

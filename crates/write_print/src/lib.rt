@@ -1,29 +1,27 @@
 // What `rvz write` writes: a log made of the records on standard input, for standard output, or its refusal, for standard error.
 #![tactic(auto)]
 
-ghost use Rattle.std.specs.Prelude.{◌≤◌, length};
+ghost use Rattle.std.specs.Prelude.{◌≤◌, length, Some};
 ghost use Rattle.outside.specs.Counts.{IsPrefixLen};
-ghost use Rattle.decimal.specs.declared.Decimal.TheVariants.{Number};
 ghost use Rattle.write_print.specs.Printed.{WritePrinted};
 
-use decimal::Decimal;
 use printed::Printed;
 use std::io::Input;
 use std::rt::{Env, Files};
 
 fn write_edition(text: &mut [u8], edition: u64, notes: &[u8], records: &[u8]) -> Printed
     requires { 32768 ≤ length text.old }
-    ensures { WritePrinted (Number edition) notes.now records.now text.new result }
+    ensures { WritePrinted (Some edition) notes.now records.now text.new result }
 {
     let w = writer::write(edition, notes, records, text);
     printed::told(text, w.refused, w.number, w.number)
 }
 
-pub fn write_log(text: &mut [u8], edition: Decimal, notes: &[u8], records: &[u8]) -> Printed
+pub fn write_log(text: &mut [u8], edition: Option<u64>, notes: &[u8], records: &[u8]) -> Printed
     requires { 32768 ≤ length text.old }
     ensures { WritePrinted edition notes.now records.now text.new result }
 {
-    let Decimal::Number(number) = edition else {
+    let Some(number) = edition else {
         let n = text_answers::no_number_text(text, b"EDITION");
         return Printed {
             size: n,
