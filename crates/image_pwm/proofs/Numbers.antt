@@ -37,9 +37,6 @@ cnfg_tested v = by (ltb v 8) refl
 pub cnfg_small : (v : ℕ) → pwm_cnfg v ≡ true → v < 8
 cnfg_small v h = ltb-true v 8 (both_true (ltb v 8) (eqb (v / 2 % 2) 0) (cnfg_tested v ∙ h)).0
 
-pub registers_tested : (v : ℕ) → ((ltb (v / 2 ^ 32 % 2 ^ 16) 8 && eqb (v / 2 ^ 32 % 2 ^ 16 / 2 % 2) 0) && ltb (v / 2 ^ 48) 8) ≡ is_registers v
-registers_tested v = rw (cnfg_tested (v / 2 ^ 32 % 2 ^ 16))
-
 -- ---- the remainder is below N
 
 module _ (r k m : ℕ) where

@@ -7,6 +7,7 @@ ghost use Rattle.image_pwm.specs.How.{registers_number, registers_of, is_registe
 use bits::number;
 use pwm::{Pwm, Registers, Wave};
 
+#[tactic(auto, unfolding(crate::specs::How::registers_number))]
 pub fn registers_number(g: Registers) -> u64
     ensures { result ≡ registers_number g }
 {
@@ -16,12 +17,14 @@ pub fn registers_number(g: Registers) -> u64
         + 281474976710656 * (g.cs as u64)
 }
 
+#[tactic(auto, unfolding(crate::specs::How::wave_number))]
 pub fn wave_number(w: Wave) -> u64
     ensures { result ≡ wave_number w }
 {
     w.counter as u64 + 65536 * (w.remainder as u64) + 16777216 * (number(w.output) as u64)
 }
 
+#[tactic(auto, unfolding(crate::specs::How::registers_of))]
 fn registers_of(v: u64) -> Registers
     ensures { result ≡ registers_of v }
 {
@@ -33,6 +36,7 @@ fn registers_of(v: u64) -> Registers
     }
 }
 
+#[tactic(auto, unfolding(crate::specs::How::wave_of))]
 fn wave_of(v: u64) -> Wave
     ensures { result ≡ wave_of v }
 {

@@ -13,18 +13,12 @@ use i2c_code::{Failure, Phase};
 
 // ---- an encoder
 
-fn pattern(e: Encoder) -> u64
-    ensures { (result ≡ pattern e.count) × (result < 4294967296) }
-{
-    e.register(2)
-}
-
 // Of an encoder in range, whose CNFG and STAT are bytes.
 #[tactic(auto, unfolding(crate::specs::How::low_number))]
 pub fn encoder_number(e: Encoder) -> u64
     ensures { result ≡ low_number e }
 {
-    pattern(e)
+    encoder_count::bit_pattern(e.count) as u64
         + 4294967296 * ((e.cnfg % 256) as u64)
         + 1099511627776 * ((e.stat % 256) as u64)
         + 281474976710656 * (e.pins as u64)
@@ -71,28 +65,16 @@ fn failure_of(n: u64) -> Option<Failure>
     }
 }
 
-fn state(c: I2c) -> u64
-    ensures { (result ≡ state_of c.phase) × (result < 3) }
-{
-    c.register(3)
-}
-
-fn failure(c: I2c) -> u64
-    ensures { (result ≡ failure_number c.failure) × (result < 3) }
-{
-    c.register(4)
-}
-
 #[tactic(auto, unfolding(crate::specs::How::i2c_number))]
 pub fn i2c_number(c: I2c) -> u64
     ensures { result ≡ i2c_number c }
 {
     c.addr as u64
         + 256 * (c.cntl as u64)
-        + 65536 * state(c)
+        + 65536 * (i2c_code::state(c.phase) as u64)
         + 16777216 * (number(c.acknowledged) as u64)
         + 4294967296 * (c.answer as u64)
-        + 1099511627776 * failure(c)
+        + 1099511627776 * (i2c_code::number(c.failure) as u64)
 }
 
 #[tactic(auto, unfolding(crate::specs::How::i2c_of))]
