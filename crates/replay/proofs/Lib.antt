@@ -1,4 +1,4 @@
-mod Laid
+mod Fresh
 mod Whole
 pub mod Numbers
 pub mod Notes
