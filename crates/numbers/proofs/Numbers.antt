@@ -1,26 +1,47 @@
 -- Numbers in bytes: one law for every width, and that a number's bytes give it back, and the other way.
 -- Assumes nothing.
-use mathlib.Core.Path.{◌≡◌, refl, sym, ◌∙◌}
-use mathlib.Core.List.{List, [], ◌∷◌, ◌++◌}
-use Prim.Native.Nat.{ℕ, zero, suc, ◌+◌, ◌*◌, ◌/◌, ◌%◌, ◌^◌, ◌≤◌, ◌<◌}
+use mathlib.Core.Path.{◌≡◌, refl, sym, ap, ◌∙◌}
+use mathlib.Core.List.{List, [], ◌∷◌, ◌++◌, append_assoc}
+use Prim.Native.Nat.{ℕ, zero, suc, ◌+◌, ◌-◌, ◌*◌, ◌/◌, ◌%◌, ◌^◌, ◌≤◌, ◌<◌}
 use native.Mathlib.Omega.{arith}
-use native.Mathlib.Nat.{suc-add, add-suc, add-zero, zero-add, pow-suc, pow-succ', mul_assoc, div-lt_iff_lt-mul}
-use native.Mathlib.Numerals.{add-one, add-four}
+use native.Mathlib.Nat.{add-suc, pow-suc, pow-succ', pow-le-pow_right, mul_comm, div-div-eq-div-mul, div-lt_iff_lt-mul}
 use lib.ListN.{length, take, drop}
-use lib.Seq.{drop-cons, get_or-append-add, sets}
+use Rattle.std.proofs.lemmas.List.{drop-drop}
+use lib.Seq.{drop-cons, get_or-append-add, sets, sets-eq}
+use borrow.Rule.Slice.PartMut.{put_mid}
+use Rattle.std.specs.Int.{bytes_low_first, byte_at}
 use Rattle.numbers.specs.Bytes.{byte, le_of, le_bytes}
 
--- m bytes and then n bytes
-le_join : (m n : ℕ) (s : List ℕ) (at : ℕ) → le_of (m + n) s at ≡ le_of m s at + 256 ^ m * le_of n s (at + m)
+-- no byte, and all n of them
+pub le_none : (n at : ℕ) (s : List ℕ) → (0 ≡ le_of (n - n) s at) × (0 < 256 ^ (n - n))
 unfolding le_of
-le_join zero n s at = rw (zero-add n, add-zero at) (omega arith)
-le_join (suc m) n s at =
-    let h = mul_assoc 256 (256 ^ m) (le_of n s (suc at + m)) in
-    rw (suc-add m n, le_join m n s (suc at), pow-succ' 256 m, add-suc at m, ← suc-add at m) (omega (arith, h))
+le_none n at s = let m : n - n ≡ 0 = omega arith in rw m (refl, omega arith)
 
-pub le_two : (s : List ℕ) (at a b : ℕ) → a ≡ byte s at → b ≡ byte s (at + 1) → a + 256 * b ≡ le_of 2 s at
+pub le_all : (n i at v : ℕ) (s : List ℕ) → i ≤ 0 → v ≡ le_of (n - i) s (at + i) → v ≡ le_of n s at
+le_all n i at v s h p = let z : i ≡ 0 = omega arith in let m : n - 0 ≡ n = omega arith in let k : at + 0 ≡ at = omega arith in rw (z, m, k) at p
+
+pub bound_all : (n i v : ℕ) → i ≤ 0 → v < 256 ^ (n - i) → v < 256 ^ n
+bound_all n i v h p = let z : i ≡ 0 = omega arith in let m : n - 0 ≡ n = omega arith in rw (z, m) at p
+
+-- one byte more, in front of the last n - i of n bytes
+pub le_next : (n i at v b : ℕ) (s : List ℕ) → 0 < i → i ≤ n → v ≡ le_of (n - i) s (at + i) → b ≡ byte s (at + (i - 1))
+    → 256 * v + b ≡ le_of (n - (i - 1)) s (at + (i - 1))
 unfolding le_of
-le_two s at a b p q = rw (p, q, add-one at) (omega arith)
+le_next n i at v b s h l p q =
+    let m : n - (i - 1) ≡ suc (n - i) = omega arith in
+    let k : at + i ≡ suc (at + (i - 1)) = omega arith in
+    rw (m, p, q, k) (omega arith)
+
+pub bound_next : (n i v b : ℕ) → 0 < i → i ≤ n → v < 256 ^ (n - i) → b < 256 → 256 * v + b < 256 ^ (n - (i - 1))
+bound_next n i v b h l p q =
+    let m : n - (i - 1) ≡ suc (n - i) = omega arith in
+    rw (m, pow-succ' 256 (n - i)) (omega arith)
+
+-- at most seven bytes leave room for one more
+pub room_next : (n i v b : ℕ) → 0 < i → i ≤ n → n ≤ 8 → v < 256 ^ (n - i) → b < 256 → 256 * v + b < 2 ^ 64
+room_next n i v b h l m p q =
+    let k : 256 ^ (n - i) ≤ 256 ^ 7 = pow-le-pow_right {n = 256} (omega arith) {i = n - i} {j = 7} (omega arith) in
+    omega arith
 
 -- behind other bytes
 pub le_behind : (n : ℕ) (p s : List ℕ) (at : ℕ) → le_of n (p ++ s) (length p + at) ≡ le_of n s at
@@ -45,15 +66,29 @@ bytes_le (suc n) s at b h =
     let m : (byte s at + 256 * le_of n s (suc at)) % 256 ≡ byte s at = omega (arith, b at) in
     rw (d, m, bytes_le n s (suc at) b (omega arith), drop-cons s at 0 (omega arith))
 
-pub le_four : (s : List ℕ) (at a b : ℕ) → a ≡ le_of 2 s at → b ≡ le_of 2 s (at + 2) → a + 65536 * b ≡ le_of 4 s at
-le_four s at a b p q = rw (p, q) (sym (le_join 2 2 s at))
+-- the n bytes of a number are the first of `to_le_bytes`
+low_bytes : (n k i v : ℕ) → n ≤ k → take n (bytes_low_first i k v) ≡ le_bytes n (v / 256 ^ i)
+low_bytes zero k i v h = refl
+low_bytes (suc n) zero i v h = absurd (omega arith)
+low_bytes (suc n) (suc k) i v h =
+    let e : v / 256 ^ suc i ≡ v / 256 ^ i / 256 = rw (pow-succ' 256 i, mul_comm 256 (256 ^ i)) (sym (div-div-eq-div-mul v (256 ^ i) 256)) in
+    rw (low_bytes n k (suc i) v (omega arith), e, byte_is i v)
+  where
+    byte_is : (i v : ℕ) → byte_at i v ≡ v / 256 ^ i % 256
+    byte_is zero v = omega arith
+    byte_is (suc i) v = refl
 
-pub le_eight : (s : List ℕ) (at a b : ℕ) → a ≡ le_of 4 s at → b ≡ le_of 4 s (at + 4) → a + 4294967296 * b ≡ le_of 8 s at
-le_eight s at a b p q = rw (p, q) (sym (le_join 4 4 s at))
+long_bytes : (n v : ℕ) → length (le_bytes n v) ≡ n
+long_bytes zero v = refl
+long_bytes (suc n) v = ap suc (long_bytes n (v / 256))
 
--- eight bytes stored are four and then four
-pub two_fours : (l m n : List ℕ) (at v : ℕ) → m ≡ sets l at (le_bytes 4 v) → n ≡ sets m (at + 4) (le_bytes 4 (v / 4294967296))
-    → n ≡ sets l at (le_bytes 8 v)
-two_fours l m n at v p q =
-    let e : v / 4294967296 ≡ v / 256 / 256 / 256 / 256 = omega arith in
-    q ∙ rw (p, e, add-four at)
+-- a slice's part put back is bytes stored
+pub mid_sets : (out s : List ℕ) (at k : ℕ) → k ≡ length s → at + k ≤ length out → put_mid at k out s ≡ sets out at s
+mid_sets out s at k e h = sym (sets-eq s out at (omega arith) ∙ rw (← e, ← drop-drop k at out) (append_assoc (take at out) s (drop k (drop at out))))
+
+pub stored : (n v at : ℕ) (out b s : List ℕ) → n ≤ 8 → at + n ≤ length out → b ≡ bytes_low_first 0 8 v → s ≡ take n b
+    → put_mid at (at + n - at) out s ≡ sets out at (le_bytes n v)
+stored n v at out b s m h p q =
+    let e : s ≡ le_bytes n v = q ∙ ap (take n) p ∙ low_bytes n 8 0 v m ∙ ap (le_bytes n) (omega arith) in
+    let l : at + n - at ≡ length s = omega (arith, ap length e, long_bytes n v) in
+    mid_sets out s at (at + n - at) l (omega arith) ∙ ap (sets out at) e

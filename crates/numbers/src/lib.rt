@@ -1,7 +1,7 @@
 // Numbers of several bytes, least byte first.
 #![tactic(auto)]
 
-ghost use Rattle.std.specs.Prelude.{◌≡◌, ◌+◌, ◌<◌, ◌≤◌, length};
+ghost use Rattle.std.specs.Prelude.{◌≡◌, ◌+◌, ◌<◌, ◌≤◌, ◌^◌, length};
 ghost use Rattle.std.proofs.lemmas.List.Edits.{sets};
 ghost use Rattle.numbers.specs.Bytes.{le_of, le_bytes};
 
@@ -11,25 +11,48 @@ pub fn wide(x: u8) -> u64
     x as u64
 }
 
+// The number in N bytes from `at` on.
+pub fn le<const N: usize>(s: &[u8], at: usize) -> u64
+    requires in_bounds { at + N ≤ length s.now }
+    requires fits { N ≤ 8 }
+    ensures value { result ≡ le_of N s.now at }
+    ensures bound { result < 256 ^ N }
+{
+    let mut number: u64 = 0;
+    for i in (0..N).rev() {
+        number = 256 * number + u64::from(s[at + i]);
+    }
+    number
+}
+
 pub fn le16(s: &[u8], at: usize) -> u64
     requires { at + 2 ≤ length s.now }
     ensures { (result ≡ le_of 2 s.now at) × (result < 65536) }
 {
-    wide(s[at]) + 256 * wide(s[at + 1])
+    le::<2>(s, at)
 }
 
 pub fn le32(s: &[u8], at: usize) -> u64
     requires { at + 4 ≤ length s.now }
     ensures { (result ≡ le_of 4 s.now at) × (result < 4294967296) }
 {
-    le16(s, at) + 65536 * le16(s, at + 2)
+    le::<4>(s, at)
 }
 
 pub fn le64(s: &[u8], at: usize) -> u64
     requires { at + 8 ≤ length s.now }
     ensures { result ≡ le_of 8 s.now at }
 {
-    le32(s, at) + 4294967296 * le32(s, at + 4)
+    le::<8>(s, at)
+}
+
+// The low N bytes of v, stored from `at` on.
+pub fn put<const N: usize>(out: &mut [u8], at: usize, v: u64)
+    requires in_bounds { at + N ≤ length out.old }
+    requires fits { N ≤ 8 }
+    ensures { out.new ≡ sets out.old at (le_bytes N v) }
+{
+    out[at..at + N].copy_from_slice(&v.to_le_bytes()[..N]);
 }
 
 // The low four bytes of v, stored from at on.
@@ -37,13 +60,7 @@ pub fn put32(out: &mut [u8], at: usize, v: u64)
     requires { at + 4 ≤ length out.old }
     ensures { out.new ≡ sets out.old at (le_bytes 4 v) }
 {
-    let v1 = v / 256;
-    let v2 = v1 / 256;
-    let v3 = v2 / 256;
-    out[at] = (v % 256) as u8;
-    out[at + 1] = (v1 % 256) as u8;
-    out[at + 2] = (v2 % 256) as u8;
-    out[at + 3] = (v3 % 256) as u8;
+    put::<4>(out, at, v);
 }
 
 // The eight bytes of v, stored from at on.
@@ -51,6 +68,5 @@ pub fn put64(out: &mut [u8], at: usize, v: u64)
     requires { at + 8 ≤ length out.old }
     ensures { out.new ≡ sets out.old at (le_bytes 8 v) }
 {
-    put32(out, at, v);
-    put32(out, at + 4, v / 4294967296);
+    put::<8>(out, at, v);
 }
