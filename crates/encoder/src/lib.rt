@@ -1,18 +1,20 @@
 // One encoder: its count, the registers CNFG and STAT as numbers, and the pins last seen.
 #![tactic(auto)]
 
-ghost use Rattle.std.specs.Prelude.{◌≡◌, Bool};
+ghost use Rattle.std.specs.Prelude.{◌≡◌};
+ghost use Rattle.encoder_pins.specs.Pins.{forward};
 ghost use Rattle.encoder.specs.Encoder.{stored, kept, counted, quadrature, clocked, on_cnfg, on_select, on_pins, register_of, fresh};
 
-use encoder_count::{bit_pattern, kept_count, wrapping_down, wrapping_up};
-use encoder_pins::{places, unsees};
-use encoder_stat::{cleared_by, erred, marked_down, marked_up};
+use encoder_count::{bit_pattern, kept_count, wrapping_step};
+use encoder_pins::{Change, places, unsees};
+use encoder_stat::{cleared_by, erred, marked};
 
 #[derive(Clone, Copy)]
 pub struct Encoder {
     pub count: i32,
     pub cnfg: u32,
     pub stat: u32,
+    // two fields, since a stream's state has both as bytes, whatever the pins are that are unseen
     pub pins: u8,
     pub seen: bool,
 }
@@ -35,11 +37,11 @@ impl Encoder {
         ensures { result ≡ stored v count stat self }
     {
         Encoder {
-            count: count,
-            cnfg: self.cnfg,
-            stat: stat,
+            count,
+            stat,
             pins: v,
             seen: true,
+            ..self
         }
     }
 
@@ -47,42 +49,30 @@ impl Encoder {
         ensures { result ≡ kept v self }
     {
         Encoder {
-            count: self.count,
-            cnfg: self.cnfg,
-            stat: self.stat,
             pins: v,
             seen: true,
+            ..self
         }
     }
 
-    fn counted_up(self, v: u8) -> Encoder
-        ensures { result ≡ counted Bool.false v self }
+    // A step, forward or back.
+    fn counted(self, back: bool, v: u8) -> Encoder
+        ensures { result ≡ counted back v self }
     {
         let at = self.count;
-        self.stored(v, wrapping_up(at), marked_up(at, self.stat))
+        self.stored(v, wrapping_step(at, back), marked(at, back, self.stat))
     }
 
-    fn counted_down(self, v: u8) -> Encoder
-        ensures { result ≡ counted Bool.true v self }
+    // MODE 0.
+    fn quadrature(self, change: Change, v: u8) -> Encoder
+        ensures { result ≡ quadrature (forward change) v self }
     {
-        let at = self.count;
-        self.stored(v, wrapping_down(at), marked_down(at, self.stat))
-    }
-
-    // MODE 0, by how many places forward the pins are.
-    fn quadrature(self, places: u8, v: u8) -> Encoder
-        ensures { result ≡ quadrature places v self }
-    {
-        if places == 0 {
-            return self.kept(v);
+        match change {
+            Change::Same => self.kept(v),
+            Change::Forward => self.counted(false, v),
+            Change::Double => self.stored(v, self.count, erred(self.stat)),
+            Change::Back => self.counted(true, v),
         }
-        if places == 1 {
-            return self.counted_up(v);
-        }
-        if places == 2 {
-            return self.stored(v, self.count, erred(self.stat));
-        }
-        self.counted_down(v)
     }
 
     // MODE 1.
@@ -90,12 +80,10 @@ impl Encoder {
         ensures { result ≡ clocked v self }
     {
         if !(self.pins % 2 == 1) & (v % 2 == 1) {
-            if v / 2 % 2 == 1 {
-                return self.counted_down(v);
-            }
-            return self.counted_up(v);
+            self.counted(v / 2 % 2 == 1, v)
+        } else {
+            self.kept(v)
         }
-        self.kept(v)
     }
 
     // A pins record: bit 0 is A, bit 1 is B.
@@ -127,8 +115,8 @@ impl Encoder {
             count: kept_count(v / 2 % 2 == 1, self.count),
             cnfg: v,
             stat: cleared_by(c, v, self.stat),
-            pins: self.pins,
             seen: self.seen & !unsees(c, v),
+            ..self
         }
     }
 
@@ -137,23 +125,18 @@ impl Encoder {
         ensures { result ≡ on_select was now self }
     {
         Encoder {
-            count: self.count,
-            cnfg: self.cnfg,
-            stat: self.stat,
-            pins: self.pins,
             seen: self.seen & !(!was & now),
+            ..self
         }
     }
 
     pub fn register(self, register: u64) -> u64
         ensures { result ≡ register_of register self }
     {
-        if register == 0 {
-            return self.cnfg as u64;
+        match register {
+            0 => self.cnfg as u64,
+            1 => self.stat as u64,
+            _ => bit_pattern(self.count) as u64,
         }
-        if register == 1 {
-            return self.stat as u64;
-        }
-        bit_pattern(self.count) as u64
     }
 }

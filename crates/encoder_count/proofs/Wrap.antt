@@ -1,6 +1,6 @@
 -- Laws of the count: the pattern of a sum goes by the pattern of its first summand, so a wrap on the way is forgotten.
 -- Assumes nothing.
-use Rattle.std.proofs.Common.{◌≡◌, ℕ, zero, suc, ◌+◌, ◌-◌, ◌%◌, ◌<◌, ◌≤◌, Bool, true, false, ltb, ℤ, pos, negsuc, ◌+ℤ◌, sym, refl, ap, ◌∙◌, arith, ltb-false, ltb-true, le-ltb, lt-ltb}
+use Rattle.std.proofs.Common.{◌≡◌, ℕ, zero, suc, ◌+◌, ◌-◌, ◌%◌, ◌<◌, ◌≤◌, Bool, true, false, ltb, ℤ, pos, negsuc, ◌+ℤ◌, sym, refl, ap, ◌∙◌, arith, w32, of_z, ltb-false, ltb-true, le-ltb, lt-ltb}
 use lib.IntN.{suc_ℤ, pred_ℤ, +ℤ-suc_ℤ, +ℤ-pred_ℤ, +ℤ_idr}
 use lib.Signed.{mag}
 use Rattle.encoder_count.specs.Count.{pattern, signed, wrap}
@@ -73,6 +73,11 @@ pattern_add x y (negsuc (suc n)) e = down (pattern_add x y (negsuc n) e)
 -- a wrap on the way is forgotten
 pub pattern_add_wrap : (x z : ℤ) → pattern (wrap x +ℤ z) ≡ pattern (x +ℤ z)
 pattern_add_wrap x z = pattern_add (wrap x) x z (pattern_wrap x)
+
+-- the machine's bits of a count are its pattern
+pub bits_are : (z : ℤ) → mag z < 2147483648 → of_z w32 z ≡ pattern z
+bits_are (pos n) h = omega arith
+bits_are (negsuc n) h = omega arith
 
 -- what a count is, from its pattern
 pub from_pattern : (x z : ℤ) → mag x < 2147483648 → pattern x ≡ pattern z → x ≡ wrap z

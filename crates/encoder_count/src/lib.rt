@@ -7,34 +7,21 @@ ghost use Rattle.encoder_count.specs.Count.{wrap, pattern, signed};
 pub fn bit_pattern(at: i32) -> u32
     ensures { result ≡ pattern at }
 {
-    if at < 0 {
-        4294967295 - ((-1 - at) as u32)
-    } else {
-        at as u32
-    }
+    at.cast_unsigned()
 }
 
 // The count that a bit pattern stands for.
 pub fn count_of(b: u32) -> i32
     ensures { result ≡ signed b }
 {
-    if b < 2147483648 {
-        b as i32
-    } else {
-        -1 - ((4294967295 - b) as i32)
-    }
+    b.cast_signed()
 }
 
-pub fn wrapping_up(at: i32) -> i32
-    ensures { result ≡ wrap (at +ℤ pos 1) }
+// One step, forward or back.
+pub fn wrapping_step(at: i32, back: bool) -> i32
+    ensures { result ≡ wrap (at +ℤ (if back then negsuc 0 else pos 1)) }
 {
-    count_of(std::num::wrapping_add_u32(bit_pattern(at), 1))
-}
-
-pub fn wrapping_down(at: i32) -> i32
-    ensures { result ≡ wrap (at +ℤ negsuc 0) }
-{
-    count_of(std::num::wrapping_sub_u32(bit_pattern(at), 1))
+    at.wrapping_add(if back { -1 } else { 1 })
 }
 
 // RST 1 sets the count to 0.

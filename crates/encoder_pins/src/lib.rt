@@ -3,13 +3,27 @@
 
 ghost use Rattle.std.specs.Prelude.{◌≡◌, ◌||◌};
 ghost use Rattle.bits.specs.Bits.{changes};
-ghost use Rattle.encoder_pins.specs.Pins.{en, mode, places};
+ghost use Rattle.encoder_pins.specs.Pins.{en, mode, forward, places};
 
-// How many places on the pins are, at old * 4 + new: 1 is one place forward, 3 one back, 2 is both pins changed.
-const PLACES: [u8; 16] = [0, 1, 3, 2, 3, 0, 2, 1, 1, 2, 0, 3, 2, 3, 1, 0];
+// How many places forward pins go, of four: three are one back, and at two both pins have changed.
+#[derive(Clone, Copy)]
+pub enum Change {
+    Same,
+    Forward,
+    Double,
+    Back,
+}
 
-pub fn places(old: u8, new: u8) -> u8
-    ensures { result ≡ places old new }
+use Change::{Back, Double, Forward, Same};
+
+// At old * 4 + new.
+const PLACES: [Change; 16] = [
+    Same, Forward, Back, Double, Back, Same, Double, Forward, Forward, Double, Same, Back, Double,
+    Back, Forward, Same,
+];
+
+pub fn places(old: u8, new: u8) -> Change
+    ensures { forward result ≡ places old new }
 {
     let i = ((old % 4) as usize) * 4 + ((new % 4) as usize);
     PLACES[i]

@@ -6,7 +6,8 @@ use Prim.Native.Nat.{ℕ, ◌+◌, ◌*◌, ◌/◌, ◌%◌}
 use native.Mathlib.Omega.{arith}
 use lib.Dec.{T, eqb, eqb→eq}
 use lib.ListN.{replicate}
-use Rattle.bits.specs.Bits.{bit, num}
+use mir.Val.{bool_byte}
+use Rattle.bits.specs.Bits.{bit}
 use Rattle.encoder_stat.specs.Stat.{stat_of, marked}
 use Rattle.laws.proofs.Table.{every, at}
 
@@ -47,10 +48,10 @@ abbrev marking : Bool → ℕ → Bool → Bool → Bool → Bool → Bool → B
 marking back x dir err uovr sovr uoerr soerr =
     stat_of back err (uovr || passes_unsigned back x) (sovr || passes_signed back x) (uoerr || (uovr && passes_unsigned back x)) (soerr || (sovr && passes_signed back x))
 
--- from x, which may go by the direction, of which d is the number
+-- from x, which may go by the direction
 module _ (x : Bool → ℕ) (f : ℕ → ℕ → ℕ)
     (true-way : T (every (λ n _. eqb (f 1 n) (on (marking true (x true)) n)) 0 (replicate 64 0)))
     (false-way : T (every (λ n _. eqb (f 0 n) (on (marking false (x false)) n)) 0 (replicate 64 0))) where
-  pub by_direction : (back : Bool) (d : ℕ) → d ≡ num back → (stat : ℕ) → f d (stat % 64) ≡ marked back (x back) stat
-  by_direction true d e stat = rw e (by_bits (f 1) (marking true (x true)) true-way stat)
-  by_direction false d e stat = rw e (by_bits (f 0) (marking false (x false)) false-way stat)
+  pub by_direction : (back : Bool) (stat : ℕ) → f (bool_byte back) (stat % 64) ≡ marked back (x back) stat
+  by_direction true stat = by_bits (f 1) (marking true (x true)) true-way stat
+  by_direction false stat = by_bits (f 0) (marking false (x false)) false-way stat

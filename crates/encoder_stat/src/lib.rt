@@ -1,35 +1,37 @@
 // STAT as a number: each rule is a few operations on its six bits.
 #![tactic(auto)]
 
-ghost use Rattle.std.specs.Prelude.{◌≡◌, Bool, cond};
+ghost use Rattle.std.specs.Prelude.{◌≡◌, cond};
 ghost use Rattle.bits.specs.Bits.{bit, rises};
 ghost use Rattle.encoder_count.specs.Count.{pattern};
 ghost use Rattle.encoder_stat.specs.Stat.{cleared, marked, erred};
 
-use bits::number;
-
-// A step that passes no border, as the one from 1.
-fn marked(back: bool, stat: u32) -> u32
-    ensures { result ≡ marked back 1 stat }
+// The count before a step that passes the unsigned border, and before one that passes the signed border.
+fn before_unsigned(back: bool) -> i32
+    ensures { pattern result ≡ cond back 0 4294967295 }
 {
-    let s = stat % 64;
-    s / 2 * 2 | (number(back) as u32)
+    if back { 0 } else { -1 }
 }
 
-// UOVR, and UOERR where UOVR is set already.
-fn marked_past_unsigned(back: bool, stat: u32) -> u32
-    ensures { result ≡ marked back (cond back 0 4294967295) stat }
+fn before_signed(back: bool) -> i32
+    ensures { pattern result ≡ cond back 2147483648 2147483647 }
 {
-    let s = stat % 64;
-    s / 2 * 2 | (number(back) as u32) | 4 | (s / 4 % 2 * 16)
+    if back { i32::MIN } else { i32::MAX }
 }
 
-// SOVR, and SOERR where SOVR is set already.
-fn marked_past_signed(back: bool, stat: u32) -> u32
-    ensures { result ≡ marked back (cond back 2147483648 2147483647) stat }
+// A step from a count: DIR; UOVR or SOVR, and UOERR or SOERR where the first is set already.
+pub fn marked(at: i32, back: bool, stat: u32) -> u32
+    ensures { result ≡ marked back (pattern at) stat }
 {
     let s = stat % 64;
-    s / 2 * 2 | (number(back) as u32) | 8 | (s / 8 % 2 * 32)
+    let turned = s / 2 * 2 | (back as u32);
+    if at == before_unsigned(back) {
+        turned | 4 | (s / 4 % 2 * 16)
+    } else if at == before_signed(back) {
+        turned | 8 | (s / 8 % 2 * 32)
+    } else {
+        turned
+    }
 }
 
 pub fn erred(stat: u32) -> u32
@@ -43,42 +45,12 @@ fn cleared(error: bool, overflow: bool, stat: u32) -> u32
     ensures { result ≡ cleared error overflow stat }
 {
     let s = stat % 64;
-    if error {
-        if overflow {
-            return s % 2;
-        }
-        return s & 61;
+    match (error, overflow) {
+        (true, true) => s % 2,
+        (true, false) => s & 61,
+        (false, true) => s % 4,
+        (false, false) => s,
     }
-    if overflow {
-        return s % 4;
-    }
-    s
-}
-
-// A step forward from a count.
-pub fn marked_up(at: i32, stat: u32) -> u32
-    ensures { result ≡ marked Bool.false (pattern at) stat }
-{
-    if at == -1 {
-        return marked_past_unsigned(false, stat);
-    }
-    if at == 2147483647 {
-        return marked_past_signed(false, stat);
-    }
-    marked(false, stat)
-}
-
-// A step back from a count.
-pub fn marked_down(at: i32, stat: u32) -> u32
-    ensures { result ≡ marked Bool.true (pattern at) stat }
-{
-    if at == 0 {
-        return marked_past_unsigned(true, stat);
-    }
-    if at == -2147483648 {
-        return marked_past_signed(true, stat);
-    }
-    marked(true, stat)
 }
 
 // A write of v to CNFG, which was c: CERR and COVR.
