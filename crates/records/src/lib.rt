@@ -1,7 +1,8 @@
 // What a record's fields name, by the table of kinds, blocks, channels and registers; or its refusal.
 #![tactic(auto)]
 
-ghost use Rattle.std.specs.Prelude.{◌≡◌, cond};
+ghost use Rattle.std.specs.Prelude.{◌≡◌, Ok, Err, cond};
+ghost use Rattle.refused.specs.declared.Refusal.TheVariants.{NoSuchRecord};
 ghost use Rattle.records.specs.Record.{fitting, select_range, pwm_cnfg, pwm_range, i2c_range, write_of, read_of, pins_of, ticks_of, answer_of, named_of};
 
 use refused::Refusal;
@@ -28,159 +29,109 @@ pub enum Record {
 fn pwm_cnfg(v: u64) -> bool
     ensures { result ≡ pwm_cnfg v }
 {
-    (v == 0) | ((v == 1) | ((v == 4) | (v == 5)))
+    matches!(v, 0 | 1 | 4 | 5)
 }
 
 pub fn pwm_range(register: u8, v: u64) -> bool
     ensures { result ≡ pwm_range register v }
 {
-    if register == 0 {
-        return pwm_cnfg(v);
+    match register {
+        0 => pwm_cnfg(v),
+        1 => v < 8,
+        _ => v < 65536,
     }
-    if register == 1 {
-        return v < 8;
-    }
-    v < 65536
 }
 
 pub fn i2c_range(register: u8, v: u64) -> bool
     ensures { result ≡ i2c_range register v }
 {
-    if register == 0 {
-        return v < 256;
+    match register {
+        0 => v < 256,
+        1 => v < 16,
+        _ => v == 1,
     }
-    if register == 1 {
-        return v < 16;
-    }
-    v == 1
 }
 
 pub fn select_range(port: bool, v: u64) -> bool
     ensures { result ≡ select_range port v }
 {
     if port {
-        return (v < 256) & !((v >> 6) % 2 == 1);
+        (v < 256) & !((v >> 6) % 2 == 1)
+    } else {
+        v < 1099511627776
     }
-    v < 1099511627776
 }
 
-// ---- the kinds
+// ---- what is tested of a record: first whether it is listed, then its value
+
+fn listed(is: bool) -> Result<(), Refusal>
+    ensures { result ≡ cond is (Ok tt) (Err NoSuchRecord) }
+{
+    if is {
+        Ok(())
+    } else {
+        Err(Refusal::NoSuchRecord)
+    }
+}
 
 fn fitting(fits: bool, r: Record) -> Result<Record, Refusal>
     ensures { result ≡ fitting fits r }
 {
     if fits {
-        return Ok(r);
+        Ok(r)
+    } else {
+        Err(Refusal::ValueOutOfRange)
     }
-    Err(Refusal::ValueOutOfRange)
 }
 
+// ---- the kinds
+
+#[tactic(auto, unfolding(crate::specs::Record::write_of))]
 fn select_write(port: bool, channel: u8, register: u8, v: u64) -> Result<Record, Refusal>
     ensures { result ≡ write_of port 0 channel register v }
 {
-    if channel != 0 {
-        return Err(Refusal::NoSuchRecord);
-    }
-    if register != 0 {
-        return Err(Refusal::NoSuchRecord);
-    }
+    listed((channel == 0) & (register == 0))?;
     fitting(select_range(port, v), Record::WriteSelect(v))
 }
 
+#[tactic(auto, unfolding(crate::specs::Record::write_of))]
 fn encoder_write(port: bool, channel: u8, register: u8, v: u64) -> Result<Record, Refusal>
     ensures { result ≡ write_of port 1 channel register v }
 {
-    if channel >= 10 {
-        return Err(Refusal::NoSuchRecord);
-    }
-    if register != 0 {
-        return Err(Refusal::NoSuchRecord);
-    }
-    if v >= 32 {
-        return Err(Refusal::ValueOutOfRange);
-    }
-    Ok(Record::WriteEncoder(channel as usize, v))
+    listed((channel < 10) & (register == 0))?;
+    fitting(v < 32, Record::WriteEncoder(channel as usize, v))
 }
 
+#[tactic(auto, unfolding(crate::specs::Record::write_of))]
 fn pwm_write(port: bool, channel: u8, register: u8, v: u64) -> Result<Record, Refusal>
     ensures { result ≡ write_of port 2 channel register v }
 {
-    if channel >= 20 {
-        return Err(Refusal::NoSuchRecord);
-    }
-    if register >= 4 {
-        return Err(Refusal::NoSuchRecord);
-    }
+    listed((channel < 20) & (register < 4))?;
     fitting(
         pwm_range(register, v),
         Record::WritePwm(channel as usize, register as u64, v),
     )
 }
 
+#[tactic(auto, unfolding(crate::specs::Record::write_of))]
 fn i2c_write(port: bool, channel: u8, register: u8, v: u64) -> Result<Record, Refusal>
     ensures { result ≡ write_of port 3 channel register v }
 {
-    if channel != 0 {
-        return Err(Refusal::NoSuchRecord);
-    }
-    if register >= 3 {
-        return Err(Refusal::NoSuchRecord);
-    }
+    listed((channel == 0) & (register < 3))?;
     fitting(i2c_range(register, v), Record::WriteI2c(register as u64, v))
 }
 
+#[tactic(auto, unfolding(crate::specs::Record::write_of))]
 fn write(port: bool, block: u8, channel: u8, register: u8, v: u64) -> Result<Record, Refusal>
     ensures { result ≡ write_of port block channel register v }
 {
-    if block == 0 {
-        return select_write(port, channel, register, v);
+    match block {
+        0 => select_write(port, channel, register, v),
+        1 => encoder_write(port, channel, register, v),
+        2 => pwm_write(port, channel, register, v),
+        3 => i2c_write(port, channel, register, v),
+        _ => Err(Refusal::NoSuchRecord),
     }
-    if block == 1 {
-        return encoder_write(port, channel, register, v);
-    }
-    if block == 2 {
-        return pwm_write(port, channel, register, v);
-    }
-    if block == 3 {
-        return i2c_write(port, channel, register, v);
-    }
-    Err(Refusal::NoSuchRecord)
-}
-
-fn select_read(answers: bool, channel: u8, register: u8) -> Result<Record, Refusal>
-    ensures { result ≡ read_of answers 0 channel register }
-{
-    if channel != 0 {
-        return Err(Refusal::NoSuchRecord);
-    }
-    if register != 0 {
-        return Err(Refusal::NoSuchRecord);
-    }
-    Ok(Record::ReadSelect)
-}
-
-fn encoder_read(answers: bool, channel: u8, register: u8) -> Result<Record, Refusal>
-    ensures { result ≡ read_of answers 1 channel register }
-{
-    if channel >= 10 {
-        return Err(Refusal::NoSuchRecord);
-    }
-    if register >= 3 {
-        return Err(Refusal::NoSuchRecord);
-    }
-    Ok(Record::ReadEncoder(channel as usize, register as u64))
-}
-
-fn pwm_read(answers: bool, channel: u8, register: u8) -> Result<Record, Refusal>
-    ensures { result ≡ read_of answers 2 channel register }
-{
-    if channel >= 20 {
-        return Err(Refusal::NoSuchRecord);
-    }
-    if register >= 6 {
-        return Err(Refusal::NoSuchRecord);
-    }
-    Ok(Record::ReadPwm(channel as usize, register as u64))
 }
 
 pub fn i2c_registers(answers: bool) -> u8
@@ -189,96 +140,57 @@ pub fn i2c_registers(answers: bool) -> u8
     if answers { 5 } else { 4 }
 }
 
-fn i2c_read(answers: bool, channel: u8, register: u8) -> Result<Record, Refusal>
-    ensures { result ≡ read_of answers 3 channel register }
-{
-    if channel != 0 {
-        return Err(Refusal::NoSuchRecord);
-    }
-    if register == 2 {
-        return Err(Refusal::NoSuchRecord);
-    }
-    if register >= i2c_registers(answers) {
-        return Err(Refusal::NoSuchRecord);
-    }
-    Ok(Record::ReadI2c(register as u64))
-}
-
+#[tactic(auto, unfolding(crate::specs::Record::read_of))]
 fn read(answers: bool, block: u8, channel: u8, register: u8) -> Result<Record, Refusal>
     ensures { result ≡ read_of answers block channel register }
 {
-    if block == 0 {
-        return select_read(answers, channel, register);
+    match block {
+        0 => {
+            listed((channel == 0) & (register == 0))?;
+            Ok(Record::ReadSelect)
+        }
+        1 => {
+            listed((channel < 10) & (register < 3))?;
+            Ok(Record::ReadEncoder(channel as usize, register as u64))
+        }
+        2 => {
+            listed((channel < 20) & (register < 6))?;
+            Ok(Record::ReadPwm(channel as usize, register as u64))
+        }
+        3 => {
+            let most = i2c_registers(answers);
+            listed((channel == 0) & ((register != 2) & (register < most)))?;
+            Ok(Record::ReadI2c(register as u64))
+        }
+        _ => Err(Refusal::NoSuchRecord),
     }
-    if block == 1 {
-        return encoder_read(answers, channel, register);
-    }
-    if block == 2 {
-        return pwm_read(answers, channel, register);
-    }
-    if block == 3 {
-        return i2c_read(answers, channel, register);
-    }
-    Err(Refusal::NoSuchRecord)
 }
 
+#[tactic(auto, unfolding(crate::specs::Record::pins_of))]
 fn pins(block: u8, channel: u8, register: u8, v: u64) -> Result<Record, Refusal>
     ensures { result ≡ pins_of block channel register v }
 {
-    if block != 1 {
-        return Err(Refusal::NoSuchRecord);
-    }
-    if channel >= 10 {
-        return Err(Refusal::NoSuchRecord);
-    }
-    if register != 0 {
-        return Err(Refusal::NoSuchRecord);
-    }
-    if v >= 4 {
-        return Err(Refusal::ValueOutOfRange);
-    }
-    Ok(Record::Pins(channel as usize, v))
+    listed((block == 1) & ((channel < 10) & (register == 0)))?;
+    fitting(v < 4, Record::Pins(channel as usize, v))
 }
 
+#[tactic(auto, unfolding(crate::specs::Record::ticks_of))]
 fn ticks(block: u8, channel: u8, register: u8, bank: u64, v: u64) -> Result<Record, Refusal>
     ensures { result ≡ ticks_of block channel register bank v }
 {
-    if bank != 0 {
-        return Err(Refusal::NoSuchRecord);
-    }
-    if block != 0 {
-        return Err(Refusal::NoSuchRecord);
-    }
-    if channel != 0 {
-        return Err(Refusal::NoSuchRecord);
-    }
-    if register != 0 {
-        return Err(Refusal::NoSuchRecord);
-    }
-    if v >= 4294967296 {
-        return Err(Refusal::ValueOutOfRange);
-    }
-    Ok(Record::Ticks(v))
+    listed((bank == 0) & ((block == 0) & ((channel == 0) & (register == 0))))?;
+    fitting(v < 4294967296, Record::Ticks(v))
 }
 
+#[tactic(auto, unfolding(crate::specs::Record::answer_of))]
 fn answer(block: u8, channel: u8, register: u8, v: u64) -> Result<Record, Refusal>
     ensures { result ≡ answer_of block channel register v }
 {
-    if block != 3 {
-        return Err(Refusal::NoSuchRecord);
-    }
-    if channel != 0 {
-        return Err(Refusal::NoSuchRecord);
-    }
-    if register != 0 {
-        return Err(Refusal::NoSuchRecord);
-    }
-    if 4 <= v {
-        return Err(Refusal::ValueOutOfRange);
-    }
-    Ok(Record::Answer(v))
+    listed((block == 3) & ((channel == 0) & (register == 0)))?;
+    fitting(v < 4, Record::Answer(v))
 }
 
+#[tactic(auto, unfolding(crate::specs::Record::named_of))]
 pub fn named(
     port: bool,
     answers: bool,
@@ -291,26 +203,18 @@ pub fn named(
 ) -> Result<Record, Refusal>
     ensures { result ≡ named_of port answers kind block channel register bank v }
 {
-    if kind == 1 {
-        return write(port, block, channel, register, v);
-    }
-    if kind == 2 {
-        if v != 0 {
-            return Err(Refusal::NoSuchRecord);
+    match kind {
+        1 => write(port, block, channel, register, v),
+        2 => {
+            listed(v == 0)?;
+            read(answers, block, channel, register)
         }
-        return read(answers, block, channel, register);
+        3 => pins(block, channel, register, v),
+        4 => ticks(block, channel, register, bank, v),
+        5 => {
+            listed(answers)?;
+            answer(block, channel, register, v)
+        }
+        _ => Err(Refusal::NoSuchRecord),
     }
-    if kind == 3 {
-        return pins(block, channel, register, v);
-    }
-    if kind == 4 {
-        return ticks(block, channel, register, bank, v);
-    }
-    if kind != 5 {
-        return Err(Refusal::NoSuchRecord);
-    }
-    if answers {
-        return answer(block, channel, register, v);
-    }
-    Err(Refusal::NoSuchRecord)
 }

@@ -1,8 +1,0 @@
-use Rattle.records.specs.Record.{read_of}
-use Rattle.laws.proofs.Cases.{cases}
-use Rattle.records.proofs.pwm_read.Statement.{statement}
-use Rattle.records.proofs.pwm_read.Tie as tie
-
-pub pwm_read_spec : {M : Type 1} → statement M
-unfolding read_of
-pwm_read_spec = tie.close (tie.spec (λ c. search cases) (λ c. search cases) (λ c. search cases))
