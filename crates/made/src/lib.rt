@@ -4,70 +4,48 @@
 ghost use Rattle.std.specs.Prelude.{◌≡◌, length};
 ghost use Rattle.made.specs.How.{source_of, handed_of, handed_in};
 
+use refused::Refusal;
 use trailer::Trailer;
 
-// The refusal, 0 for none; the index of the record that was refused, else 0; how many bytes were made.
+// Why nothing is made, with nothing written: the refusal, and the index of the record that was refused, else 0.
 #[derive(Clone, Copy)]
-pub struct Made {
-    pub refused: u8,
+pub struct Failure {
+    pub refusal: Refusal,
     pub index: usize,
-    pub size: usize,
 }
 
-// A log that replays, by its trailer, or its refusal and how many records were applied before it.
-#[derive(Clone, Copy)]
-pub enum Source {
-    Replays {
-        start: usize,
-        count: usize,
-        edition: u64,
-    },
-    Refused {
-        number: u8,
-        index: usize,
-    },
+// A refusal that is of no record.
+impl From<Refusal> for Failure {
+    ghost from_gives = { λ k f. f ≡ record { refusal = k; index = 0 } };
+
+    fn from(refusal: Refusal) -> Failure {
+        Failure { refusal, index: 0 }
+    }
 }
 
-// 16,384 bytes have room for the readings of every log.
-pub fn source_of(log: &[u8]) -> Source
+// The trailer of a log that replays. 16,384 bytes have room for the readings of every log.
+pub fn source_of(log: &[u8]) -> Result<Trailer, Failure>
     ensures { result ≡ source_of log.now }
 {
     let mut readings = [0u8; 16384];
     let stop = replay::replay(log, &mut readings);
-    if stop.refused != 0 {
-        return Source::Refused {
-            number: stop.refused,
+    if let Some(refusal) = stop.refused {
+        return Err(Failure {
+            refusal,
             index: stop.applied,
-        };
+        });
     }
-    match trailer::find(log) {
-        Trailer::Refused(number) => Source::Refused {
-            number: number,
-            index: 0,
-        },
-        Trailer::Found(start, count, edition) => Source::Replays {
-            start: start,
-            count: count,
-            edition: edition,
-        },
-    }
+    Ok(trailer::find(log)?)
 }
 
-// Bytes made in a buffer of our own, so that 6 writes nothing.
-pub fn hand_out(bytes: &[u8], out: &mut [u8]) -> Made
+// Bytes made in a buffer of our own, so that a refusal writes nothing.
+pub fn hand_out(bytes: &[u8], out: &mut [u8]) -> Result<usize, Failure>
     ensures value { result ≡ handed_of bytes.now (length out.old) }
     ensures out_after { out.new ≡ handed_in bytes.now out.old }
 {
     if out.len() < bytes.len() {
-        return Made {
-            refused: 6,
-            index: 0,
-            size: 0,
-        };
+        return Err(Failure::from(Refusal::OutputTooShort));
     }
-    Made {
-        refused: 0,
-        index: 0,
-        size: text::put_word(out, 0, bytes),
-    }
+    out[..bytes.len()].copy_from_slice(bytes);
+    Ok(bytes.len())
 }
