@@ -22,8 +22,8 @@ module _ (out mid word : List ℕ) (at i : ℕ) (x : Put out at (take i word) mi
       let end : at + i + 1 ≡ at + (i + 1) = omega arith in
       rw (← end, add-one i, take-suc word i 0 h, ← e) (put_then out mid (set mid (at + i) b) (take i word) (b ∷ []) at (at + i) (at + i + 1) x (put_one mid (at + i) b (omega (arith, put_long out mid (take i word) at (at + i) x))))
 
-  pub copy_all : length word ≤ i → Put out at word mid (at + i)
-  copy_all h = rw (take_all i word h) at x
+  pub copy_all : i ≡ length word → Put out at word mid (at + length word)
+  copy_all h = rw (take_all i word (omega arith), h) at x
 
 -- ---- put_word: what has room is all there is
 
