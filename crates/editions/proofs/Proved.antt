@@ -17,8 +17,9 @@ use Rattle.records.specs.declared.Record.{Record}
 use Rattle.wire.specs.Decode.{bank_of, decode_of}
 use Rattle.records.specs.Record.{named_of, write_of, pins_of}
 use Rattle.trailer.specs.Trailer.{trailer_of, records_of}
-use Rattle.trailer.specs.declared.Trailer.TheVariants.{Found}
-use Rattle.records.specs.declared.Decoded.TheVariants.{Names}
+use Rattle.trailer.specs.declared.Trailer.{Trailer}
+use Rattle.std.specs.Prelude.{Ok}
+use Rattle.refused.specs.declared.Refusal.TheVariants.{OutputTooShort, WrongSelect}
 use Rattle.laws.specs.Each.{map_from}
 use Rattle.select.specs.Select.{field_of, some, encoder_routed}
 use Rattle.encoder.specs.Encoder.{en, rst, mode, stat_of, counts_in_quadrature}
@@ -38,7 +39,7 @@ use Rattle.editions.proofs.Three.{as_two, Moded, moded_first, moded_next}
 -- ---- edition 3 as edition 2
 
 module _ (s : State) (r : List ℕ) where
-  two_is : (x : Record) → decode_of (edition_of 3) r ≡ Names x → turn_of (edition_of 2) s r ≡ decoded_turn (edition_of 2) s r (Names x)
+  two_is : (x : Record) → decode_of (edition_of 3) r ≡ Ok x → turn_of (edition_of 2) s r ≡ decoded_turn (edition_of 2) s r (Ok x)
   unfolding turn_of decode_of
   two_is x e = ap (decoded_turn (edition_of 2) s r) e
 
@@ -49,14 +50,14 @@ module _ (s : State) (r : List ℕ) where
   same_turn =
       by_turn (edition_of 3) s r (λ t. applies t ≡ true → turn_of (edition_of 2) s r ≡ t) (λ n e a. absurd (false≢true a)) both one
     where
-      both : (x : Record) → decode_of (edition_of 3) r ≡ Names x → byte r 0 ≡ 4 → applies (ticking (edition_of 3) s r x) ≡ true
+      both : (x : Record) → decode_of (edition_of 3) r ≡ Ok x → byte r 0 ≡ 4 → applies (ticking (edition_of 3) s r x) ≡ true
           → turn_of (edition_of 2) s r ≡ ticking (edition_of 3) s r x
       both x e four a =
           two_is x e
           ∙ ap (λ (t : Bool). cond t (ticks (edition_of 2)) (banking (edition_of 2) s r x)) (eq-eqb (byte r 0) 4 four)
           ∙ sym (ticked (edition_of 3) s r x e four)
 
-      one : (x : Record) → decode_of (edition_of 3) r ≡ Names x → (byte r 0 ≡ 4 → ⊥) → applies (banking (edition_of 3) s r x) ≡ true
+      one : (x : Record) → decode_of (edition_of 3) r ≡ Ok x → (byte r 0 ≡ 4 → ⊥) → applies (banking (edition_of 3) s r x) ≡ true
           → turn_of (edition_of 2) s r ≡ banking (edition_of 3) s r x
       one x e other a =
           let f = with_bank (bank_of r) s in
@@ -66,24 +67,24 @@ module _ (s : State) (r : List ℕ) where
           ∙ ap (lift f) (as_two b x (sym (lift_applies f (bank.turn_of (edition_of 3) b x)) ∙ a))
 
 -- a replay by its trailer
-replay_is : (log : List ℕ) (a n o room : ℕ) → trailer_of log ≡ Found a n o → replay_of log room ≡ play_of (edition_of o) (records_of log) room
+replay_is : (log : List ℕ) (t : Trailer) (n room : ℕ) → trailer_of log ≡ Ok t → t.edition ≡ n → replay_of log room ≡ play_of (edition_of n) (records_of log) room
 unfolding replay_of replay_from
-replay_is log a n o room e = rw e
+replay_is log t n room e f = rw (e, f)
 
 same_play : (rs : List (List ℕ)) (room : ℕ) → (play_of (edition_of 3) rs room).course ≡ going → play_of (edition_of 2) rs room ≡ play_of (edition_of 3) rs room
 unfolding play_of
 same_play rs room = by (leb (8 * reads_in rs) room)
   where
-    by : (t : Bool) → (cond t (played (edition_of 3) rs) (halted fresh 0 [] 6)).course ≡ going
-        → cond t (played (edition_of 2) rs) (halted fresh 0 [] 6) ≡ cond t (played (edition_of 3) rs) (halted fresh 0 [] 6)
+    by : (t : Bool) → (cond t (played (edition_of 3) rs) (halted fresh 0 [] OutputTooShort)).course ≡ going
+        → cond t (played (edition_of 2) rs) (halted fresh 0 [] OutputTooShort) ≡ cond t (played (edition_of 3) rs) (halted fresh 0 [] OutputTooShort)
     by true h = fold.alike (turn_of (edition_of 3)) (turn_of (edition_of 2)) same_turn fresh rs h
     by false h = refl
 
-as_edition_two : (log other : List ℕ) (a b n room : ℕ) → trailer_of log ≡ Found a n 3 → trailer_of other ≡ Found b n 2
+as_edition_two : (log other : List ℕ) (t u : Trailer) (room : ℕ) → trailer_of log ≡ Ok t → t.edition ≡ 3 → trailer_of other ≡ Ok u → u.edition ≡ 2
     → records_of other ≡ records_of log → (replay_of log room).course ≡ going → replay_of other room ≡ replay_of log room
-as_edition_two log other a b n room three two same through =
-    let is = replay_is log a n 3 room three in
-    replay_is other b n 2 room two
+as_edition_two log other t u room first three second two same through =
+    let is = replay_is log t 3 room first three in
+    replay_is other u 2 room second two
     ∙ ap (λ (rs : List (List ℕ)). play_of (edition_of 2) rs room) same
     ∙ same_play (records_of log) room (ap (λ (x : Run State ℕ). x.course) (sym is) ∙ through)
     ∙ sym is
@@ -111,7 +112,7 @@ editions = record {
   goes_in_two = refl;
   stops_in_three = refl;
   nine_first = refl;
-  never_ten = λ rs h. fold.stopped_by (turn_of (edition_of 4)) (λ k. k ≡ 10 → ⊥) record_no_ten fresh rs 10 h refl;
+  never_ten = λ rs h. fold.stopped_by (turn_of (edition_of 4)) (λ k. k ≡ WrongSelect → ⊥) record_no_ten fresh rs WrongSelect h refl;
   encoder_is_routed = refl;
   not_by_bit_4 = refl;
   pwm_is_routed = refl;

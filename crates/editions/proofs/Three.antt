@@ -4,6 +4,8 @@ use mathlib.Core.Path.{◌≡◌, refl, ap, ◌∙◌}
 use mathlib.Core.Bool.{Bool, true, false, cond, ◌&&◌, false≢true}
 use Prim.Native.Nat.{ℕ}
 use Rattle.laws.proofs.Each.{each_keeps, set_keeps, fresh_keeps}
+use Rattle.refused.specs.declared.Refusal.{Refusal}
+use Rattle.refused.specs.declared.Refusal.TheVariants.{NotRouted, WrongSelect, StepAndDirection}
 use Rattle.fold.specs.Turn.{Turn, goes, reads, refused, lift, applies, leaves}
 use Rattle.edition.specs.Edition.{edition_of}
 use Rattle.records.specs.declared.Record.{Record}
@@ -20,12 +22,12 @@ use Rattle.bank.specs.Bank.{fresh, encoder_at, with_encoder, pwm_at, with_pwm, w
 
 -- ---- as edition 2
 
-unbarred : (routed mode : Bool) (t : Turn Bank ℕ) → applies (cond (routed && mode) (refused 18) t) ≡ true → t ≡ cond (routed && mode) (refused 18) t
+unbarred : (routed mode : Bool) (t : Turn Bank ℕ) → applies (cond (routed && mode) (refused StepAndDirection) t) ≡ true → t ≡ cond (routed && mode) (refused StepAndDirection) t
 unbarred true true t a = absurd (false≢true a)
 unbarred true false t a = refl
 unbarred false mode t a = refl
 
-unmoded : (routed : Bool) (t : Turn Bank ℕ) → cond (routed && false) (refused 18) t ≡ t
+unmoded : (routed : Bool) (t : Turn Bank ℕ) → cond (routed && false) (refused StepAndDirection) t ≡ t
 unmoded true t = refl
 unmoded false t = refl
 
@@ -52,11 +54,11 @@ Moded b = (i : ℕ) → encoder.mode (encoder_at i b).cnfg ≡ false
 abbrev Plain : Encoder → Type 0
 Plain e = encoder.mode e.cnfg ≡ false
 
-if_goes : (b c : Bank) (n : ℕ) (test : Bool) → Moded b → Moded c → Moded (leaves {A = ℕ} b (cond test (goes c) (refused n)))
+if_goes : (b c : Bank) (n : Refusal) (test : Bool) → Moded b → Moded c → Moded (leaves {A = ℕ} b (cond test (goes c) (refused n)))
 if_goes b c n true h k = k
 if_goes b c n false h k = h
 
-lifted : (b : Bank) (n : ℕ) (test : Bool) (t : Turn I2c ℕ) → Moded b → Moded (leaves b (cond test (lift (with_i2c b) t) (refused n)))
+lifted : (b : Bank) (n : Refusal) (test : Bool) (t : Turn I2c ℕ) → Moded b → Moded (leaves b (cond test (lift (with_i2c b) t) (refused n)))
 lifted b n true (goes c) h = h
 lifted b n true (reads v) h = h
 lifted b n true (refused k) h = h
@@ -66,7 +68,7 @@ one_encoder : (i : ℕ) (b : Bank) (e : Encoder) → Plain e → Moded b → Mod
 one_encoder i b e p h = set_keeps Plain encoder.fresh b.encoders i e p h
 
 barred : (b c : Bank) (routed mode : Bool) → (mode ≡ false → Moded c) → Moded b
-    → Moded (leaves {A = ℕ} b (cond (routed && mode) (refused 18) (cond routed (goes c) (refused 9))))
+    → Moded (leaves {A = ℕ} b (cond (routed && mode) (refused StepAndDirection) (cond routed (goes c) (refused NotRouted))))
 barred b c true true k h = h
 barred b c true false k h = k refl
 barred b c false mode k h = h
@@ -77,15 +79,15 @@ moded_first = fresh_keeps Plain encoder.fresh refl 10
 
 pub moded_next : (b : Bank) (r : Record) → Moded b → Moded (leaves b (turn_of (edition_of 3) b r))
 unfolding turn_of
-moded_next b (WriteSelect v) h = if_goes b (on_select false v b) 10 (allowed false v) h (each_keeps Plain encoder.fresh (reroute false b.select v) (λ i e p. p) 0 b.encoders h)
+moded_next b (WriteSelect v) h = if_goes b (on_select false v b) WrongSelect (allowed false v) h (each_keeps Plain encoder.fresh (reroute false b.select v) (λ i e p. p) 0 b.encoders h)
 moded_next b (WriteEncoder i v) h =
     barred b (with_encoder i b (encoder.on_cnfg v (encoder_at i b))) (encoder_routed false b.select i) (encoder.mode v) (λ p. one_encoder i b _ p h) h
 moded_next b (Pins i v) h =
     let e = encoder_at i b in
-    if_goes b (with_encoder i b (encoder.on_pins v e)) 9 (encoder_routed false b.select i) h (one_encoder i b (encoder.on_pins v e) (ap encoder.mode (pins_cnfg v e) ∙ h i) h)
-moded_next b (WritePwm i g v) h = if_goes b (with_pwm i b (pwm.on_write g v (pwm_at i b))) 9 (pwm_routed false b.select i) h h
-moded_next b (WriteI2c g v) h = lifted b 9 (i2c_routed false b.select) (i2c.write_turn g v b.i2c) h
-moded_next b (Answer v) h = lifted b 9 (i2c_routed false b.select) (goes (i2c.on_answer v b.i2c)) h
+    if_goes b (with_encoder i b (encoder.on_pins v e)) NotRouted (encoder_routed false b.select i) h (one_encoder i b (encoder.on_pins v e) (ap encoder.mode (pins_cnfg v e) ∙ h i) h)
+moded_next b (WritePwm i g v) h = if_goes b (with_pwm i b (pwm.on_write g v (pwm_at i b))) NotRouted (pwm_routed false b.select i) h h
+moded_next b (WriteI2c g v) h = lifted b NotRouted (i2c_routed false b.select) (i2c.write_turn g v b.i2c) h
+moded_next b (Answer v) h = lifted b NotRouted (i2c_routed false b.select) (goes (i2c.on_answer v b.i2c)) h
 moded_next b (Ticks t) h = h
 moded_next b ReadSelect h = h
 moded_next b (ReadEncoder i g) h = h

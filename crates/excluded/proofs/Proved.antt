@@ -6,8 +6,11 @@ use mathlib.Core.List.{List, [], ◌∷◌, ◌++◌}
 use native.Mathlib.Omega.{arith}
 use lib.ListN.{length, replicate}
 use Rattle.laws.specs.Each.{map_from}
+use Rattle.refused.specs.declared.Refusal.{Refusal}
+use Rattle.refused.specs.declared.Refusal.TheVariants.{LogTooLong, LogTooShort, WrongMark, WrongEdition, WrongDistance, OutputTooShort, NoSuchRecord, ValueOutOfRange, NotRouted, WrongSelect, WrongControl, RateOutOfRange, ToleranceTooLarge, NoPair, NoSuchPair, StopAfterAck, WrongTranscript, StepAndDirection, NoState, NoDump}
+use Rattle.refused.specs.Number.{number, number_of}
 use Rattle.fold.specs.Run.{Run, step, resumed, run_of, tally}
-use Rattle.fold.specs.Output.{number_of, bytes_of, over, output_of}
+use Rattle.fold.specs.Output.{refusal_of, bytes_of, over, output_of}
 use Rattle.fold.specs.Device.{records}
 use Rattle.encoder.specs.Encoder.{stat_of}
 use Rattle.select.specs.Select.{field_of, some}
@@ -37,16 +40,35 @@ output = replicate 8 0
 abbrev first_byte : List ℕ → ℕ
 first_byte out = byte out 0
 
-refused_none : (k : ℕ) → suc k ≡ 0 → ⊥
-refused_none k e = omega arith
+refused_none : (k : Refusal) → number k ≡ 0 → ⊥
+refused_none LogTooLong e = omega arith
+refused_none LogTooShort e = omega arith
+refused_none WrongMark e = omega arith
+refused_none WrongEdition e = omega arith
+refused_none WrongDistance e = omega arith
+refused_none OutputTooShort e = omega arith
+refused_none NoSuchRecord e = omega arith
+refused_none ValueOutOfRange e = omega arith
+refused_none NotRouted e = omega arith
+refused_none WrongSelect e = omega arith
+refused_none WrongControl e = omega arith
+refused_none RateOutOfRange e = omega arith
+refused_none ToleranceTooLarge e = omega arith
+refused_none NoPair e = omega arith
+refused_none NoSuchPair e = omega arith
+refused_none StopAfterAck e = omega arith
+refused_none WrongTranscript e = omega arith
+refused_none StepAndDirection e = omega arith
+refused_none NoState e = omega arith
+refused_none NoDump e = omega arith
 
 applied_five : (k : ℕ) → suc k + 1 + 1 + 1 + 1 + 1 ≡ 5 → ⊥
 applied_five k e = omega arith
 
 right : Meets played
-right log out a n e t enough =
-    let is = replayed log a n e (length out) t enough in
-    (ap (λ (x : Run State ℕ). number_of x.course) (sym is), ap (λ (x : Run State ℕ). x.applied) (sym is), ap (λ (x : Run State ℕ). written x out) (sym is))
+right log out t e enough =
+    let is = replayed log t (length out) e enough in
+    (ap (λ (x : Run State ℕ). number_of (refusal_of x.course)) (sym is), ap (λ (x : Run State ℕ). x.applied) (sym is), ap (λ (x : Run State ℕ). written x out) (sym is))
 
 -- ---- requests with tolerance 0: the period of a pair that is answered, times the rate, is the clock
 
@@ -64,14 +86,14 @@ fixed u f g c x p h = (exact u f (h f 0) refl, exact u g (h g 0) refl)
 pub excluded : Excluded
 unfolding replay_of replay_from trailer_of play_of run_of resumed step tally records turn_of bank.turn_of le_of decode_of named_of write_of read_of pins_of ticks_of answer_of field_of some map_from stat_of bank.fresh bytes_of over output_of
 excluded = record {
-  refuses_all = λ k h. refused_none _ (h whole output 0 5 1 refl (omega arith)).0;
-  never_moves = λ h. let e : ◌≡◌ {A = ℕ} 0 1 = ap first_byte (h whole output 0 5 1 refl (omega arith)).2 in omega arith;
+  refuses_all = λ k h. refused_none _ (h whole output _ refl (omega arith)).0;
+  never_moves = λ h. let e : ◌≡◌ {A = ℕ} 0 1 = ap first_byte (h whole output _ refl (omega arith)).2 in omega arith;
   one_reading = λ v h.
-      let a : v % 256 ≡ 1 = ap first_byte (h whole output 0 5 1 refl (omega arith)).2 in
-      let b : v % 256 ≡ 0 = ap first_byte (h reading output 0 1 1 refl (omega arith)).2 in
+      let a : v % 256 ≡ 1 = ap first_byte (h whole output _ refl (omega arith)).2 in
+      let b : v % 256 ≡ 0 = ap first_byte (h reading output _ refl (omega arith)).2 in
       omega arith;
-  first_only = λ h. let e : ◌≡◌ {A = ℕ} 0 1 = ap first_byte (h whole output 0 5 1 refl (omega arith)).2 in omega arith;
-  invented_tally = λ k h. applied_five _ (h whole output 0 5 1 refl (omega arith)).1;
+  first_only = λ h. let e : ◌≡◌ {A = ℕ} 0 1 = ap first_byte (h whole output _ refl (omega arith)).2 in omega arith;
+  invented_tally = λ k h. applied_five _ (h whole output _ refl (omega arith)).1;
   fixed_pwm = λ c x p h. let e = fixed (pwm 1_000) 1_000_000 40_000 c x p h in omega arith;
   fixed_spi = λ c x p h. let e = fixed (spi 1_000) 4_000_000_000 40_000 c x p h in omega arith;
   right = right;

@@ -30,9 +30,9 @@ use Rattle.trailer.specs.Trailer.{trailer_of, records_at, records_of, edition_in
 use Rattle.wire.specs.Decode.{bank_of, decode_of}
 use Rattle.records.specs.Record.{named_of, write_of, read_of, pins_of, ticks_of, answer_of}
 use Rattle.trailer.specs.declared.Trailer.{Trailer}
-use Rattle.trailer.specs.declared.Trailer.TheVariants.{Found, Refused as NoTrailer}
 use Rattle.records.specs.declared.Record.TheVariants.{ReadEncoder, Pins}
-use Rattle.records.specs.declared.Decoded.TheVariants.{Names}
+use Rattle.std.specs.Prelude.{Result, Ok, Err}
+use Rattle.refused.specs.declared.Refusal.{Refusal}
 use Rattle.replay.proofs.Bytes.{reading_there}
 use Rattle.trailer.proofs.Laws.{few_records}
 use Rattle.wire.proofs.Formed.{formed, bank_formed}
@@ -120,7 +120,7 @@ demand_of_logs k i log r before rs later cut st =
 
 -- ---- the output's bytes
 
-module _ (o : Edition) (k i : ℕ) (q : List ℕ) (names : decode_of o q ≡ Names (ReadEncoder i 2)) (there : bank_of q ≡ k) where
+module _ (o : Edition) (k i : ℕ) (q : List ℕ) (names : decode_of o q ≡ Ok (ReadEncoder i 2)) (there : bank_of q ≡ k) where
   asks_cntr : (b : State) → turn_of o b q ≡ reads (pattern (encoder_at i (bank_at k b)).count)
   unfolding turn_of bank.turn_of
   asks_cntr b = rw (names, (formed o q (ReadEncoder i 2) names).0.is_kind, there)
@@ -152,10 +152,10 @@ plays : (log : List ℕ) (room : ℕ) (before : List (List ℕ)) (r : List ℕ) 
     → 8 * reads_in (records_of log) ≤ room → replay_of log room ≡ played (edition_in log) (before ++ r ∷ rs)
 plays log room before r rs cut fits = by (trailer_of log) refl
   where
-    by : (t : Trailer) → trailer_of log ≡ t → replay_of log room ≡ played (edition_in log) (before ++ r ∷ rs)
-    by (Found a n o) e = replayed log a n o room e fits ∙ ap (played (edition_in log)) cut
-    by (NoTrailer k) e =
-        let none : length (before ++ r ∷ rs) ≡ 0 = ap length (sym cut ∙ ap (λ (t : Trailer). records_at t log) e) in
+    by : (t : Result Trailer Refusal) → trailer_of log ≡ t → replay_of log room ≡ played (edition_in log) (before ++ r ∷ rs)
+    by (Ok t) e = replayed log t room e fits ∙ ap (played (edition_in log)) cut
+    by (Err k) e =
+        let none : length (before ++ r ∷ rs) ≡ 0 = ap length (sym cut ∙ ap (λ (t : Result Trailer Refusal). records_at t log) e) in
         absurd (omega (arith, length-append before (r ∷ rs)))
 
 pub demand_of_outputs : DemandOfOutputs
