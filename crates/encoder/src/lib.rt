@@ -80,7 +80,12 @@ impl Encoder {
         ensures { result ≡ clocked v self }
     {
         if !(self.pins % 2 == 1) & (v % 2 == 1) {
-            self.counted(v / 2 % 2 == 1, v)
+            // two calls, since in each the direction is a constant: with one every step costs two instructions more
+            if v / 2 % 2 == 1 {
+                self.counted(true, v)
+            } else {
+                self.counted(false, v)
+            }
         } else {
             self.kept(v)
         }

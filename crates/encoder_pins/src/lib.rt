@@ -16,8 +16,8 @@ pub enum Change {
 
 use Change::{Back, Double, Forward, Same};
 
-// At old * 4 + new.
-const PLACES: [Change; 16] = [
+// At old * 4 + new. A static, since a const would be copied for each look-up.
+static PLACES: [Change; 16] = [
     Same, Forward, Back, Double, Back, Same, Double, Forward, Forward, Double, Same, Back, Double,
     Back, Forward, Same,
 ];

@@ -24,13 +24,13 @@ pub fn marked(at: i32, back: bool, stat: u32) -> u32
     ensures { result ≡ marked back (pattern at) stat }
 {
     let s = stat % 64;
-    let turned = s / 2 * 2 | (back as u32);
+    // DIR anew on each way: shared, it costs an instruction or two at every step
     if at == before_unsigned(back) {
-        turned | 4 | (s / 4 % 2 * 16)
+        s / 2 * 2 | (back as u32) | 4 | (s / 4 % 2 * 16)
     } else if at == before_signed(back) {
-        turned | 8 | (s / 8 % 2 * 32)
+        s / 2 * 2 | (back as u32) | 8 | (s / 8 % 2 * 32)
     } else {
-        turned
+        s / 2 * 2 | (back as u32)
     }
 }
 
