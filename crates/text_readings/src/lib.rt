@@ -9,24 +9,13 @@ ghost use Rattle.text.specs.Text.{line, text_of, lines_of, readings_in};
 
 use text::{put_line, put_pair};
 
-// The ith reading on its own line.
-fn put_reading(out: &mut [u8], at: usize, readings: &[u8], i: usize) -> usize
-    requires { 8 * i + 8 ≤ length readings.now }
-    ensures { Put out.old at (line (digits_of (le_of 8 readings.now (8 * i)))) out.new result }
-{
-    put_line(out, at, b"", numbers::le64(readings, 8 * i))
-}
-
 // Each reading on its own line.
 pub fn put_readings(out: &mut [u8], readings: &[u8]) -> usize
     ensures { Put out.old 0 (lines_of (readings_in readings.now)) out.new result }
 {
-    let n = readings.len() / 8;
-    let mut end: usize = 0;
-    let mut i: usize = 0;
-    while i < n {
-        end = put_reading(out, end, readings, i);
-        i += 1;
+    let mut end = 0;
+    for reading in readings.chunks_exact(8) {
+        end = put_line(out, end, b"", numbers::le64(reading, 0));
     }
     end
 }
