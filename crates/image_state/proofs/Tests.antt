@@ -1,18 +1,16 @@
 -- The test, part by part and whole.
 -- Assumes nothing.
 use mathlib.Core.Path.{◌≡◌, refl, sym, ap, ◌∙◌}
-use mathlib.Core.Bool.{Bool, true, false, ◌&&◌, ◌||◌, and-true}
+use mathlib.Core.Bool.{Bool, true, false, ◌&&◌, and_assoc}
 use mathlib.Core.List.{List}
 use Prim.Native.Nat.{ℕ, zero, suc, ◌+◌, ◌*◌, ◌/◌, ◌^◌, ◌≤◌, ◌<◌, ◌%◌}
-use native.Mathlib.Omega.{arith}
 use native.Mathlib.Nat.{le_antisymm}
 use lib.ListN.{length}
-use lib.Dec.{ltb, eqb}
-use Rattle.numbers.specs.Bytes.{byte, le_of}
+use Rattle.numbers.specs.Bytes.{le_of}
 use Rattle.codec.specs.How.{ok_word, ok_many}
 use Rattle.codec.proofs.Loops.{tested_none, tested_more}
 use Rattle.image_words.specs.How.{is_encoder, is_i2c, is_select}
-use Rattle.image_pwm.specs.How.{is_registers, is_wave, is_short, is_quick}
+use Rattle.image_pwm.specs.How.{is_registers, is_wave, is_short}
 use Rattle.image_pwm.proofs.Numbers.{quick_short}
 use Rattle.image_state.specs.How.{load_pwm, ok_pwm, is_carried, ok_wave, ok_quick, is_head, is_state}
 use borrow.Author.Tests.{le-leb, lt-leb}
@@ -20,9 +18,6 @@ use borrow.Author.Tests.{le-leb, lt-leb}
 -- ---- testing
 
 module _ (w : ℕ) (ok : List ℕ → ℕ → Bool) (s : List ℕ) (at : ℕ) where
-  abbrev pub Tested : Bool → ℕ → Type 0
-  Tested all i = all ≡ ok_many w ok i s at
-
   pub test_none : true ≡ ok_many w ok 0 s at
   test_none = tested_none w ok s at
 
@@ -31,27 +26,6 @@ module _ (w : ℕ) (ok : List ℕ → ℕ → Bool) (s : List ℕ) (at : ℕ) wh
 
   pub test_all : (i n : ℕ) (all : Bool) → all ≡ ok_many w ok i s at → i ≤ n → n ≤ i → all ≡ ok_many w ok n s at
   test_all i n all p h k = p ∙ ap (λ (m : ℕ). ok_many w ok m s at) (le_antisymm h k)
-
-module _ (s : List ℕ) (i : ℕ) (all : Bool) where
-  pub carried_more : (end : ℕ) → all ≡ ok_many 1 (is_carried end) i s 16 → (all && (ltb (16 + i) end || eqb (byte s (16 + i)) 0)) ≡ ok_many 1 (is_carried end) (i + 1) s 16
-  carried_more end p = let e : 16 + i ≡ 16 + 1 * i = omega arith in test_more 1 (is_carried end) s 16 i all _ p (ap (is_carried end s) e)
-
-  pub encoders_more : (v : ℕ) (t : Bool) → all ≡ ok_many 8 (ok_word is_encoder) i s 64 → v ≡ le_of 8 s (64 + 8 * i) → t ≡ is_encoder v → (all && t) ≡ ok_many 8 (ok_word is_encoder) (i + 1) s 64
-  encoders_more v t p q r = test_more 8 (ok_word is_encoder) s 64 i all t p (r ∙ ap is_encoder q)
-
-  pub registers_more : (v : ℕ) (t : Bool) → all ≡ ok_many 16 (ok_word is_registers) i s 224 → v ≡ le_of 8 s (224 + 16 * i) → t ≡ is_registers v
-      → (all && t) ≡ ok_many 16 (ok_word is_registers) (i + 1) s 224
-  registers_more v t p q r = test_more 16 (ok_word is_registers) s 224 i all t p (r ∙ ap is_registers q)
-
-  second : 232 + 16 * i ≡ 224 + 16 * i + 8
-  second = omega arith
-
-  pub waves_more : (v : ℕ) → all ≡ ok_many 16 ok_wave i s 224 → v ≡ le_of 8 s (232 + 16 * i) → (all && ltb (v / 2 ^ 24) 2) ≡ ok_many 16 ok_wave (i + 1) s 224
-  waves_more v p q = test_more 16 ok_wave s 224 i all (is_wave v) p (ap is_wave (q ∙ ap (le_of 8 s) second))
-
-  pub quick_more : (v w : ℕ) (t : Bool) → all ≡ ok_many 16 ok_quick i s 224 → v ≡ le_of 8 s (224 + 16 * i) → w ≡ le_of 8 s (232 + 16 * i) → t ≡ is_quick v w
-      → (all && t) ≡ ok_many 16 ok_quick (i + 1) s 224
-  quick_more v w t p q r e = test_more 16 ok_quick s 224 i all t p (e ∙ rw (q, r, second))
 
 -- the three tests of each channel, one after the other
 three : (a b c d : Bool) → (a ≡ true → c ≡ d) → ((a && b) && c) ≡ a && (b && d)
@@ -79,19 +53,14 @@ pwms_tested s (suc n) at =
 
 -- ---- the test
 
-two_tested : (w : ℕ) (ok : List ℕ → ℕ → Bool) (s : List ℕ) (at : ℕ) → ok_many w ok 2 s at ≡ ok s at && ok s (at + w)
-unfolding ok_many
-two_tested w ok s at = rw (and-true (ok s (at + w)))
-
 pub state_not : (s : List ℕ) → length s < 864 → false ≡ is_state s
 unfolding is_state
 state_not s h = rw (lt-leb 864 (length s) h)
 
-pub state_tested : (s : List ℕ) (v : ℕ) (h k : Bool) (a b c : ℕ) (x : Bool) (d : ℕ) (y e r w q : Bool) → 864 ≤ length s → v ≡ le_of 8 s 0 → h ≡ is_head (v % 2 ^ 8) (v / 2 ^ 8 % 2 ^ 8) (v / 2 ^ 16)
-    → k ≡ ok_many 1 (is_carried (16 + v / 2 ^ 8 % 2 ^ 8)) 16 s 16 → a ≡ le_of 8 s 32 → b ≡ le_of 8 s 40 → c ≡ le_of 8 s 48 → x ≡ is_i2c c → d ≡ le_of 8 s 56 → y ≡ is_i2c d
+pub state_tested : (s : List ℕ) (v : ℕ) (h k a b e r w q : Bool) → 864 ≤ length s → v ≡ le_of 8 s 0 → h ≡ is_head (v % 2 ^ 8) (v / 2 ^ 8 % 2 ^ 8) (v / 2 ^ 16)
+    → k ≡ ok_many 1 (is_carried (16 + v / 2 ^ 8 % 2 ^ 8)) 16 s 16 → a ≡ ok_many 8 (ok_word is_select) 2 s 32 → b ≡ ok_many 8 (ok_word is_i2c) 2 s 48
     → e ≡ ok_many 8 (ok_word is_encoder) 20 s 64 → r ≡ ok_many 16 (ok_word is_registers) 40 s 224 → w ≡ ok_many 16 ok_wave 40 s 224 → q ≡ ok_many 16 ok_quick 40 s 224
-    → (h && (k && ((ltb a (2 ^ 40) && ltb b (2 ^ 40)) && ((x && y) && (e && (r && (w && q))))))) ≡ is_state s
+    → (((((((h && k) && a) && b) && e) && r) && w) && q) ≡ is_state s
 unfolding is_state
-state_tested s v h k a b c x d y e r w q long pv ph pk pa pb pc px pd py pe pr pw pq =
-    rw (ph, pk, px, py, pe, pr, pw, pq, pv, pa, pb, pc, pd)
-    (sym (rw (le-leb 864 (length s) long, two_tested 8 (ok_word is_select) s 32, two_tested 8 (ok_word is_i2c) s 48, pwms_tested s 40 224)))
+state_tested s v h k a b e r w q long pv ph pk pa pb pe pr pw pq =
+    rw (ph, pk, pa, pb, pe, pr, pw, pq, pv) (simp and_assoc (sym (rw (le-leb 864 (length s) long, pwms_tested s 40 224))))

@@ -111,6 +111,10 @@ ok_wave s at = is_wave (le_of 8 s (at + 8))
 abbrev pub ok_quick : List ℕ → ℕ → Bool
 ok_quick s at = is_quick (le_of 8 s at) (le_of 8 s (at + 8))
 
+-- each answer at n places from one on, a width apart, is that of the test ok of the bytes s
+abbrev pub Decides : (ℕ → Bool → Type 0) → (List ℕ → ℕ → Bool) → List ℕ → ℕ → ℕ → ℕ → Type 0
+Decides answers ok s from width n = (i : ℕ) (t : Bool) → i < n → answers (from + width * i) t → t ≡ ok s (from + width * i)
+
 -- what is known of a stream that was loaded, besides its state: what a chunk asks for
 pub record Loads (s : List ℕ) (r : Stream) : Type 0 where
   pub live : live_of r ≡ load_of s
