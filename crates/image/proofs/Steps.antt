@@ -7,73 +7,16 @@ use native.Mathlib.Omega.{arith}
 use lib.ListN.{length, get_or, set, take}
 use native.Mathlib.Numerals.{add-one}
 use lib.Seq.{sets, length-sets, length-take-le, take-suc, take_all}
-use Rattle.numbers.specs.Bytes.{byte, le_of, le_bytes}
-use Rattle.codec.specs.How.{save_word, load_word, save_many, load_many}
-use Rattle.codec.proofs.Loops.{loaded, loaded_none, loaded_more, loaded_all, saved, saved_none, saved_more, saved_all, sets_append}
+use Rattle.numbers.specs.Bytes.{byte, le_bytes}
+use Rattle.codec.specs.How.{save_word, save_many}
+use Rattle.codec.proofs.Loops.{saved, saved_none, saved_more, saved_all, sets_append}
 use Rattle.encoder.specs.declared.Encoder.{Encoder}
 use Rattle.pwm.specs.declared.Pwm.{Pwm}
 use Rattle.i2c.specs.declared.I2c.{I2c}
 use Rattle.banks.specs.declared.Flat.{Flat}
-use Rattle.image_words.specs.How.{i2c_number, low_number, encoder_of}
-use Rattle.image_pwm.specs.How.{pwm_of, registers_number, wave_number}
-use Rattle.image_state.specs.How.{save_pwm, load_pwm, with_encoders, with_pwms}
-
--- ---- loading
-
-abbrev pub flat_encoders : Flat → List Encoder → Flat
-flat_encoders f l = record { selects = f.selects; encoders = l; pwms = f.pwms; i2cs = f.i2cs }
-
-abbrev pub flat_pwms : Flat → List Pwm → Flat
-flat_pwms f l = record { selects = f.selects; encoders = f.encoders; pwms = l; i2cs = f.i2cs }
-
-module _ (s : List ℕ) (f : Flat) where
-  abbrev pub encoders_to : ℕ → Flat
-  encoders_to i = flat_encoders f (loaded 8 (load_word encoder_of) s 64 i f.encoders)
-
-  pub encoders_none : f ≡ encoders_to 0
-  encoders_none = ap (flat_encoders f) (loaded_none 8 (load_word encoder_of) s 64 f.encoders)
-
-  abbrev pub pwms_to : ℕ → Flat
-  pwms_to i = flat_pwms f (loaded 16 load_pwm s 224 i f.pwms)
-
-  pub pwms_none : f ≡ pwms_to 0
-  pwms_none = ap (flat_pwms f) (loaded_none 16 load_pwm s 224 f.pwms)
-
-  module _ (known : length f.encoders ≡ 20) (x : Flat) (i : ℕ) (here : x ≡ encoders_to i) where
-    pub encoders_next : (v : ℕ) (e : Encoder) → i < 20 → v ≡ le_of 8 s (64 + 8 * i) → e ≡ encoder_of v → flat_encoders x (set x.encoders i e) ≡ encoders_to (i + 1)
-    encoders_next v e h p q =
-        rw (q, p, here) (ap (flat_encoders f) (loaded_more 8 (load_word encoder_of) s 64 f.encoders i (omega (arith, known))))
-
-    pub encoders_all : i ≤ 20 → 20 ≤ i → x ≡ with_encoders f s
-    unfolding with_encoders
-    encoders_all h k = here ∙ ap (flat_encoders f) (loaded_all 8 (load_word encoder_of) s 64 f.encoders i 20 known h k)
-
-  module _ (known : length f.pwms ≡ 40) (x : Flat) (i : ℕ) (here : x ≡ pwms_to i) where
-    pub pwms_next : (v w : ℕ) (p : Pwm) → i < 40 → v ≡ le_of 8 s (224 + 16 * i) → w ≡ le_of 8 s (232 + 16 * i) → p ≡ pwm_of v w
-        → flat_pwms x (set x.pwms i p) ≡ pwms_to (i + 1)
-    pwms_next v w p h a b q =
-        let e : 232 + 16 * i ≡ 224 + 16 * i + 8 = omega arith in
-        rw (q, a, b, e, here) (ap (flat_pwms f) (loaded_more 16 load_pwm s 224 f.pwms i (omega (arith, known))))
-
-    pub pwms_all : i ≤ 40 → 40 ≤ i → x ≡ with_pwms f s
-    unfolding with_pwms
-    pwms_all h k = here ∙ ap (flat_pwms f) (loaded_all 16 load_pwm s 224 f.pwms i 40 known h k)
-
-module _ (s l : List ℕ) where
-  abbrev pub bytes_to : ℕ → List ℕ
-  bytes_to i = loaded 1 byte s 16 i l
-
-  pub bytes_none : l ≡ bytes_to 0
-  bytes_none = loaded_none 1 byte s 16 l
-
-  module _ (known : length l ≡ 16) (x : List ℕ) (i : ℕ) (here : x ≡ bytes_to i) where
-    pub bytes_next : i < 16 → set x i (byte s (16 + i)) ≡ bytes_to (i + 1)
-    bytes_next h =
-        let e : 16 + i ≡ 16 + 1 * i = omega arith in
-        rw (here, e) (loaded_more 1 byte s 16 l i (omega arith))
-
-    pub bytes_all : i ≤ 16 → 16 ≤ i → x ≡ load_many 1 byte 16 s 16
-    bytes_all h k = here ∙ loaded_all 1 byte s 16 l i 16 known h k
+use Rattle.image_words.specs.How.{i2c_number, low_number}
+use Rattle.image_pwm.specs.How.{registers_number, wave_number}
+use Rattle.image_state.specs.How.{save_pwm}
 
 -- ---- saving
 

@@ -8,11 +8,10 @@ use native.Mathlib.Omega.{arith}
 use lib.ListN.{length, take, drop, length-append, take-append-drop}
 use lib.Seq.{sets, sets-eq, length-take-le}
 use Rattle.numbers.specs.Bytes.{byte, le_of, le_bytes}
-use Rattle.codec.specs.How.{Bytes, save_word, load_word, save_many, load_many, Each}
+use Rattle.codec.specs.How.{Bytes, save_word, save_many, load_many, Each}
 use Rattle.codec.proofs.Loops.{sets_append, many_long}
 use Rattle.codec.proofs.Each.{length_many}
 use Rattle.encoder.specs.declared.Encoder.{Encoder}
-use Rattle.i2c.specs.declared.I2c.{I2c}
 use Rattle.banks.specs.declared.State.{State}
 use Rattle.banks.specs.declared.Flat.{Flat}
 use Rattle.banks.specs.How.{state_of}
@@ -20,10 +19,10 @@ use Rattle.banks.proofs.Whole.{Whole}
 use Rattle.live_state.specs.declared.Stream.{Stream}
 use Rattle.live_state.specs.How.{live_of}
 use Rattle.image_words.specs.Words.{FitsEncoder}
-use Rattle.image_words.specs.How.{i2c_number, i2c_of, encoder_number, low_number, encoder_of}
+use Rattle.image_words.specs.How.{i2c_number, encoder_number, low_number}
 use Rattle.image_words.proofs.Numbers.{low_number_lem}
 use Rattle.image_state.specs.Image.{image_of}
-use Rattle.image_state.specs.How.{FitsState, head_number, save_pwm, words_of, load_pwm, load_of, is_state, with_encoders, with_pwms, flat_of, Loads, Saves}
+use Rattle.image_state.specs.How.{FitsState, head_number, save_pwm, words_of, load_of, is_state, flat_of, Loads, Saves}
 use Rattle.image_state.proofs.Flats.{laid_out, flat_back, state_loaded, lists_fit, FitsLists, Sized}
 use Rattle.image_state.proofs.Pads.{filled, zeros_past}
 use Rattle.image_state.proofs.Lawful.{head_small, head_fits}
@@ -32,20 +31,6 @@ use Rattle.image_state.proofs.Laid.{words_laid}
 use Rattle.image_state.proofs.Loaded.{image_long, stands}
 
 -- ---- loading
-
-two_loaded : {X : Type 0} (w : ℕ) (load : List ℕ → ℕ → X) (s : List ℕ) (at : ℕ) (x y : X) → x ≡ load s at → y ≡ load s (at + w) → x ∷ y ∷ [] ≡ load_many w load 2 s at
-unfolding load_many
-two_loaded w load s at x y p q = rw (p, q)
-
-pub selects_loaded : (s : List ℕ) (m n : ℕ) → m ≡ le_of 8 s 32 → n ≡ le_of 8 s 40 → m ∷ n ∷ [] ≡ load_many 8 (le_of 8) 2 s 32
-selects_loaded s m n p q = two_loaded 8 (le_of 8) s 32 m n p q
-
-pub i2cs_loaded : (s : List ℕ) (v w : ℕ) (a b : I2c) → v ≡ le_of 8 s 48 → a ≡ i2c_of v → w ≡ le_of 8 s 56 → b ≡ i2c_of w → a ∷ b ∷ [] ≡ load_many 8 (load_word i2c_of) 2 s 48
-i2cs_loaded s v w a b pv pa pw pb = two_loaded 8 (load_word i2c_of) s 48 a b (pa ∙ ap i2c_of pv) (pb ∙ ap i2c_of pw)
-
-pub flat_loaded : (s : List ℕ) (f x y : Flat) → x ≡ with_encoders f s → y ≡ with_pwms x s → f.selects ≡ load_many 8 (le_of 8) 2 s 32 → f.i2cs ≡ load_many 8 (load_word i2c_of) 2 s 48 → y ≡ flat_of s
-unfolding flat_of with_encoders with_pwms
-flat_loaded s f x y px py ps pc = py ∙ ap (λ (z : Flat). with_pwms z s) px ∙ (λ i. record { selects = ps i; encoders = load_many 8 (load_word encoder_of) 20 s 64; pwms = load_many 16 load_pwm 40 s 224; i2cs = pc i })
 
 pub all_room : (s : List ℕ) → is_state s ≡ true → 864 ≤ length s
 all_room s h = (passed s h).long

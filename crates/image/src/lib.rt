@@ -1,7 +1,7 @@
 // A stream's state loaded from the bytes that the caller lends, and saved in them.
 #![tactic(auto)]
 
-ghost use Rattle.std.specs.Prelude.{◌≡◌, true, ◌++◌, ◌+◌, ◌<◌, ◌≤◌, length, drop};
+ghost use Rattle.std.specs.Prelude.{◌≡◌, ℕ, true, List, ◌++◌, ◌+◌, ◌*◌, ◌^◌, ◌<◌, ◌≤◌, length, drop};
 ghost use Rattle.std.proofs.lemmas.List.Edits.{sets};
 ghost use Rattle.numbers.specs.Bytes.{byte};
 ghost use Rattle.codec.specs.How.{save_word, save_many, load_many};
@@ -9,10 +9,11 @@ ghost use Rattle.live_state.specs.How.{live_of};
 ghost use Rattle.numbers.specs.Bytes.{le_bytes};
 ghost use Rattle.image_words.specs.How.{i2c_number, low_number};
 ghost use Rattle.image_state.specs.Image.{size, image_of};
-ghost use Rattle.image_state.specs.How.{head_number, save_pwm, is_state, with_encoders, with_pwms, flat_of, Loads, Saves};
+ghost use Rattle.image_state.specs.How.{head_number, save_pwm, is_state, flat_of, Gives, Loads, Saves};
 
 use banks::Flat;
 use encoder::Encoder;
+use i2c::I2c;
 use image_pwm::{pwm_of, registers_number, wave_number};
 use image_words::{encoder_number, encoder_of, i2c_number, i2c_of};
 use live_state::Stream;
@@ -21,54 +22,35 @@ use pwm::Pwm;
 
 // ---- the stream in bytes that are a state
 
-fn load_encoders(s: &[u8], f: Flat) -> Flat
-    requires { size ≤ length s.now }
-    ensures { result ≡ with_encoders f s.now }
+// Values in a row, each loaded from its place, a width apart.
+fn load_each<T: Copy, F: Fn(usize) -> T>(values: &mut [T], from: usize, width: usize, value: F)
+    requires callable { (i : ℕ) → i < length values.old → F.pre value (from + width * i) }
+    requires bound { from + width * length values.old < 2 ^ 64 }
+    ensures { (load : List ℕ → ℕ → T) (s : List ℕ) → Gives (F.post value) load s from width (length values.old) → values.new ≡ load_many width load (length values.old) s from }
 {
-    let mut g = f;
-    for i in 0..20 {
-        g.encoders[i] = encoder_of(le64(s, 64 + 8 * i));
+    for (i, v) in values.iter_mut().enumerate() {
+        *v = value(from + width * i);
     }
-    g
-}
-
-fn load_pwms(s: &[u8], f: Flat) -> Flat
-    requires { size ≤ length s.now }
-    ensures { result ≡ with_pwms f s.now }
-{
-    let mut g = f;
-    for i in 0..40 {
-        g.pwms[i] = pwm_of(le64(s, 224 + 16 * i), le64(s, 232 + 16 * i));
-    }
-    g
 }
 
 fn load_flat(s: &[u8]) -> Flat
     requires { size ≤ length s.now }
     ensures { result ≡ flat_of s.now }
 {
-    let e = Encoder::fresh();
-    let p = Pwm::fresh();
-    let a = i2c_of(le64(s, 48));
-    let b = i2c_of(le64(s, 56));
-    let f = Flat {
-        selects: [le64(s, 32), le64(s, 40)],
-        encoders: [e; 20],
-        pwms: [p; 40],
-        i2cs: [a, b],
-    };
-    load_pwms(s, load_encoders(s, f))
-}
-
-fn load_carried(s: &[u8]) -> [u8; 16]
-    requires { size ≤ length s.now }
-    ensures { result ≡ load_many 1 byte 16 s.now 16 }
-{
-    let mut a = [0u8; 16];
-    for i in 0..16 {
-        a[i] = s[16 + i];
+    let mut selects = [0u64; 2];
+    let mut i2cs = [I2c::fresh(); 2];
+    let mut encoders = [Encoder::fresh(); 20];
+    let mut pwms = [Pwm::fresh(); 40];
+    load_each(&mut selects, 32, 8, |at| le64(s, at));
+    load_each(&mut i2cs, 48, 8, |at| i2c_of(le64(s, at)));
+    load_each(&mut encoders, 64, 8, |at| encoder_of(le64(s, at)));
+    load_each(&mut pwms, 224, 16, |at| pwm_of(le64(s, at), le64(s, at + 8)));
+    Flat {
+        selects,
+        encoders,
+        pwms,
+        i2cs,
     }
-    a
 }
 
 pub fn load(s: &[u8]) -> Stream
@@ -76,10 +58,12 @@ pub fn load(s: &[u8]) -> Stream
     ensures { Loads s.now result }
 {
     let head = le64(s, 0);
+    let mut carried = [0u8; 16];
+    carried.copy_from_slice(&s[16..32]);
     Stream {
         edition: head >> 16,
         flat: load_flat(s),
-        carried: load_carried(s),
+        carried,
         held: ((head >> 8) % 256) as usize,
         applied: le64(s, 8),
         refused: (head % 256) as u8,

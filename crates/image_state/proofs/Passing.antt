@@ -69,7 +69,7 @@ unfolding is_state
 passes s h k = both (leb 864 (length s)) (head_in s && (ok_many 1 (is_carried (16 + le_of 8 s 0 / 2 ^ 8 % 2 ^ 8)) 16 s 16 && rest_in s)) (le-leb 864 (length s) h) (sym (tests_same s) ∙ k)
 
 -- sixteen bytes read one by one
-bytes_taken : (s : List ℕ) (n at : ℕ) → at + n ≤ length s → load_many 1 byte n s at ≡ take n (drop at s)
+pub bytes_taken : (s : List ℕ) (n at : ℕ) → at + n ≤ length s → load_many 1 byte n s at ≡ take n (drop at s)
 bytes_taken s n at h =
     let left : length (take n (drop at s)) ≡ n = length-take-le n (drop at s) (rw (length-drop at s) (omega arith)) in
     ext_get_or 0 (load_many 1 byte n s at) (take n (drop at s)) (length_many 1 byte s n at ∙ sym left)

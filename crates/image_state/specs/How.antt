@@ -90,12 +90,6 @@ is_state s = let head = le_of 8 s 0 in let held = head / 2 ^ 8 % 2 ^ 8 in
 
 -- ---- both banks flat
 
-unfoldable pub with_encoders : Flat → List ℕ → Flat
-with_encoders f s = record { selects = f.selects; encoders = load_many 8 (load_word encoder_of) 20 s 64; pwms = f.pwms; i2cs = f.i2cs }
-
-unfoldable pub with_pwms : Flat → List ℕ → Flat
-with_pwms f s = record { selects = f.selects; encoders = f.encoders; pwms = load_many 16 load_pwm 40 s 224; i2cs = f.i2cs }
-
 unfoldable pub flat_of : List ℕ → Flat
 flat_of s = record {
   selects = load_many 8 (le_of 8) 2 s 32;
@@ -111,9 +105,9 @@ ok_wave s at = is_wave (le_of 8 s (at + 8))
 abbrev pub ok_quick : List ℕ → ℕ → Bool
 ok_quick s at = is_quick (le_of 8 s at) (le_of 8 s (at + 8))
 
--- each answer at n places from one on, a width apart, is that of the test ok of the bytes s
-abbrev pub Decides : (ℕ → Bool → Type 0) → (List ℕ → ℕ → Bool) → List ℕ → ℕ → ℕ → ℕ → Type 0
-Decides answers ok s from width n = (i : ℕ) (t : Bool) → i < n → answers (from + width * i) t → t ≡ ok s (from + width * i)
+-- at each of n places from one on, a width apart, what is answered is the value that the bytes s have there
+abbrev pub Gives : {X : Type 0} → (ℕ → X → Type 0) → (List ℕ → ℕ → X) → List ℕ → ℕ → ℕ → ℕ → Type 0
+Gives {X} answers value s from width n = (i : ℕ) (x : X) → i < n → answers (from + width * i) x → x ≡ value s (from + width * i)
 
 -- what is known of a stream that was loaded, besides its state: what a chunk asks for
 pub record Loads (s : List ℕ) (r : Stream) : Type 0 where

@@ -6,7 +6,7 @@ ghost use Rattle.codec.specs.How.{ok_word, ok_many};
 ghost use Rattle.image_words.specs.How.{is_encoder};
 ghost use Rattle.image_pwm.specs.How.{is_registers};
 ghost use Rattle.image_state.specs.Image.{size};
-ghost use Rattle.image_state.specs.How.{is_refusal, is_head, is_state, Decides};
+ghost use Rattle.image_state.specs.How.{is_refusal, is_head, is_state, Gives};
 
 use image_pwm::{is_registers, is_short};
 use image_words::{is_encoder, is_i2c};
@@ -29,7 +29,7 @@ fn is_head(refused: u64, held: u64, edition: u64) -> bool
 fn all_at<F: Fn(usize) -> bool>(from: usize, width: usize, n: usize, holds: F) -> bool
     requires callable { (i : ℕ) → i < n → F.pre holds (from + width * i) }
     requires bound { from + width * n < 2 ^ 64 }
-    ensures { (ok : List ℕ → ℕ → Bool) (s : List ℕ) → Decides (F.post holds) ok s from width n → result ≡ ok_many width ok n s from }
+    ensures { (ok : List ℕ → ℕ → Bool) (s : List ℕ) → Gives (F.post holds) ok s from width n → result ≡ ok_many width ok n s from }
 {
     let mut all = true;
     for i in 0..n {
