@@ -1,4 +1,5 @@
 pub mod Ways
 pub mod Two
+pub mod Refused
 pub mod Steps
 pub mod Rooms

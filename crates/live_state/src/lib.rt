@@ -1,7 +1,9 @@
 // A stream between two chunks: records of any edition and any number, and the bytes of one that is not finished; and the small steps of a chunk.
 #![tactic(auto)]
 
-ghost use Rattle.std.specs.Prelude.{◌≡◌, ◌+◌, ◌*◌, ◌<◌, ◌≤◌, length, drop, nat_le};
+ghost use Rattle.std.specs.Prelude.{◌≡◌, ◌+◌, ◌*◌, ◌<◌, ◌≤◌, None, length, drop, nat_le};
+ghost use Rattle.std.specs.Result.{result_err};
+ghost use Rattle.refused.specs.Number.{number_of};
 ghost use Rattle.std.proofs.Math.Seq.{paste};
 ghost use Rattle.fold.specs.Device.{records};
 ghost use Rattle.wire.specs.Decode.{reads_in};
@@ -9,11 +11,12 @@ ghost use Rattle.live_state.specs.Live.{fresh_of, taken_of, end_of};
 ghost use Rattle.live_state.specs.How.{finished, live_of, walked_to, Good};
 
 use banks::Flat;
+use refused::Refusal;
 use std::num::wrapping_add_u64;
 use walk::Walked;
 
 // The edition's number, both banks laid out flat, the bytes of an unfinished record (those past `held` are 0), how many records were applied,
-// modulo 2^64, and the number of the refusal, 0 if none.
+// modulo 2^64, and what refused the record that stopped it.
 #[derive(Clone, Copy)]
 pub struct Stream {
     pub edition: u64,
@@ -21,14 +24,14 @@ pub struct Stream {
     pub carried: [u8; 16],
     pub held: usize,
     pub applied: u64,
-    pub refused: u8,
+    pub refused: Option<Refusal>,
 }
 
-// What a chunk came to: the stream afterwards, the number that the chunk is answered with, 0 if none, and how many readings it wrote.
+// What a chunk came to: the stream afterwards, the refusal that the chunk is answered with, and how many readings it wrote.
 #[derive(Clone, Copy)]
 pub struct Chunked {
     pub stream: Stream,
-    pub refused: u8,
+    pub refused: Option<Refusal>,
     pub readings: usize,
 }
 
@@ -36,30 +39,23 @@ pub fn start(edition: u64) -> Stream
     ensures result_value { live_of result ≡ fresh_of edition }
     ensures good { Good result }
 {
-    let flat = banks::laid_out(banks::fresh());
-    let carried = [0u8; 16];
     Stream {
-        edition: edition,
-        flat: flat,
-        carried: carried,
+        edition,
+        flat: banks::laid_out(banks::fresh()),
+        carried: [0u8; 16],
         held: 0,
         applied: 0,
-        refused: 0,
+        refused: None,
     }
 }
 
-// n of the bytes, from `from` on, put behind the first `at` of those that are carried.
-pub fn behind(carried: [u8; 16], at: usize, bytes: &[u8], from: usize, n: usize) -> [u8; 16]
-    requires n_bound { at + n ≤ 16 }
-    requires n_in_bounds { from + n ≤ length bytes.now }
-    ensures { result ≡ paste carried at (drop from bytes.now) n }
+// The bytes put behind the first `at` of those that are carried.
+pub fn behind(carried: [u8; 16], at: usize, bytes: &[u8]) -> [u8; 16]
+    requires { at + length bytes.now ≤ 16 }
+    ensures { result ≡ paste carried at bytes.now (length bytes.now) }
 {
     let mut b = carried;
-    let mut i: usize = 0;
-    while i < n {
-        b[at + i] = bytes[from + i];
-        i += 1;
-    }
+    b[at..at + bytes.len()].copy_from_slice(bytes);
     b
 }
 
@@ -73,18 +69,17 @@ pub fn walked_to(
 ) -> Chunked
     ensures { result ≡ walked_to edition applied walked carried held }
 {
-    let flat = walked.flat;
     let stop = walked.stop;
     let stream = Stream {
-        edition: edition,
-        flat: flat,
-        carried: carried,
-        held: held,
+        edition,
+        flat: walked.flat,
+        carried,
+        held,
         applied: wrapping_add_u64(applied, stop.applied as u64),
         refused: stop.refused,
     };
     Chunked {
-        stream: stream,
+        stream,
         refused: stop.refused,
         readings: stop.readings,
     }
@@ -93,22 +88,15 @@ pub fn walked_to(
 // Bytes that finish no record.
 pub fn carry(s: Stream, bytes: &[u8]) -> Stream
     requires good { Good s }
-    requires refused_value { s.refused ≡ 0 }
+    requires refused_value { s.refused ≡ None }
     requires bytes_bound { s.held + length bytes.now < 16 }
     ensures result_value { live_of result ≡ (taken_of (live_of s) bytes.now).live }
     ensures good_2 { Good result }
 {
-    let n = bytes.len();
-    let carried = s.carried;
-    let flat = s.flat;
-    let more = behind(carried, s.held, bytes, 0, n);
     Stream {
-        edition: s.edition,
-        flat: flat,
-        carried: more,
-        held: s.held + n,
-        applied: s.applied,
-        refused: 0,
+        carried: behind(s.carried, s.held, bytes),
+        held: s.held + bytes.len(),
+        ..s
     }
 }
 
@@ -125,25 +113,23 @@ pub fn has_room(begun: usize, bytes: &[u8], at: usize, n: usize, room: usize) ->
     begun + wire::reads(bytes, at, n) <= room / 8
 }
 
-pub fn answered(s: Stream, number: u8) -> Chunked
-    ensures { result ≡ record { stream = s; refused = number; readings = 0 } }
+pub fn answered(s: Stream, refused: Option<Refusal>) -> Chunked
+    ensures { result ≡ record { stream = s; refused = refused; readings = 0 } }
 {
     Chunked {
         stream: s,
-        refused: number,
+        refused,
         readings: 0,
     }
 }
 
-pub fn end(s: Stream) -> u8
+pub fn end(s: Stream) -> Result<(), Refusal>
     requires { Good s }
-    ensures { result ≡ end_of (live_of s) }
+    ensures { number_of (result_err result) ≡ end_of (live_of s) }
 {
-    if s.refused != 0 {
-        return s.refused;
+    match s.refused {
+        Some(refusal) => Err(refusal),
+        None if s.held == 0 => Ok(()),
+        None => Err(Refusal::WrongDistance),
     }
-    if s.held == 0 {
-        return 0;
-    }
-    5
 }
