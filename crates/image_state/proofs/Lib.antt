@@ -1,4 +1,5 @@
 pub mod Tests
+pub mod Refusals
 pub mod Flats
 pub mod Pads
 pub mod Lawful

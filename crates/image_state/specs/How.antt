@@ -1,8 +1,10 @@
 -- A stream in bytes as the code has it: saved and loaded in words, and the test whether bytes are a state; both banks laid out flat, channel i of
 -- bank k of n at n * k + i, in the image as in the arrays.
 -- Assumes nothing.
-use Rattle.std.specs.Prelude.{ℕ, ◌+◌, ◌*◌, ◌-◌, ◌/◌, ◌%◌, ◌^◌, ◌<◌, ◌≡◌, Bool, ◌&&◌, ◌||◌, length, take, drop, replicate, eqb, ltb, leb}
+use Rattle.std.specs.Prelude.{ℕ, ◌+◌, ◌*◌, ◌-◌, ◌/◌, ◌%◌, ◌^◌, ◌<◌, ◌≡◌, Option, None, Some, cond, Bool, ◌&&◌, ◌||◌, length, take, drop, replicate, eqb, ltb, leb}
 use mathlib.Core.List.{List, [], ◌∷◌, ◌++◌, map, flatten}
+use Rattle.refused.specs.declared.Refusal.{Refusal}
+use Rattle.refused.specs.declared.Refusal.TheVariants.{NoSuchRecord, ValueOutOfRange, NotRouted, WrongSelect, WrongControl, StopAfterAck, StepAndDirection}
 use Rattle.numbers.specs.Bytes.{byte, le_of, le_bytes}
 use Rattle.edition.specs.Edition.{known}
 use Rattle.pwm.specs.declared.Pwm.{Pwm}
@@ -64,6 +66,10 @@ load_of s = let head = le_of 8 s 0 in record {
 }
 
 -- ---- the test
+
+abbrev pub refusal_of : ℕ → Option Refusal
+refusal_of n = cond (eqb n 7) (Some NoSuchRecord) (cond (eqb n 8) (Some ValueOutOfRange) (cond (eqb n 9) (Some NotRouted) (cond (eqb n 10) (Some WrongSelect)
+    (cond (eqb n 11) (Some WrongControl) (cond (eqb n 16) (Some StopAfterAck) (cond (eqb n 18) (Some StepAndDirection) None))))))
 
 abbrev pub is_refusal : ℕ → Bool
 is_refusal n = eqb n 0 || ((leb 7 n && leb n 11) || (eqb n 16 || eqb n 18))

@@ -6,23 +6,40 @@ ghost use Rattle.codec.specs.How.{ok_word, ok_many};
 ghost use Rattle.image_words.specs.How.{is_encoder};
 ghost use Rattle.image_pwm.specs.How.{is_registers};
 ghost use Rattle.image_state.specs.Image.{size};
-ghost use Rattle.image_state.specs.How.{is_refusal, is_head, is_state, Gives};
+ghost use Rattle.image_state.specs.How.{refusal_of, is_refusal, is_head, is_state, Gives};
 
+use edition::Edition;
 use image_pwm::{is_registers, is_short};
 use image_words::{is_encoder, is_i2c};
 use numbers::le64;
+use refused::Refusal;
+
+// What the byte of a state says of the record that stopped its stream: one of the refusals that a record can give, or none.
+pub fn refusal_of(n: u64) -> Option<Refusal>
+    ensures { result ≡ refusal_of n }
+{
+    match n {
+        7 => Some(Refusal::NoSuchRecord),
+        8 => Some(Refusal::ValueOutOfRange),
+        9 => Some(Refusal::NotRouted),
+        10 => Some(Refusal::WrongSelect),
+        11 => Some(Refusal::WrongControl),
+        16 => Some(Refusal::StopAfterAck),
+        18 => Some(Refusal::StepAndDirection),
+        _ => None,
+    }
+}
 
 fn is_refusal(n: u64) -> bool
     ensures { result ≡ is_refusal n }
 {
-    (n == 0) | (((7 <= n) & (n <= 11)) | ((n == 16) | (n == 18)))
+    matches!(n, 0 | 7..=11 | 16 | 18)
 }
 
 fn is_head(refused: u64, held: u64, edition: u64) -> bool
     ensures { result ≡ is_head refused held edition }
 {
-    ((1 <= edition) & (edition <= 4))
-        & (is_refusal(refused) & ((held < 16) & ((refused == 0) | (held == 0))))
+    Edition::known(edition) & (is_refusal(refused) & ((held < 16) & ((refused == 0) | (held == 0))))
 }
 
 // Whether a test holds at each of n places, a width apart. All are tested, without a branch: a use is then few instructions.
