@@ -22,7 +22,10 @@ use Rattle.image_words.specs.Words.{FitsEncoder}
 use Rattle.image_words.specs.How.{i2c_number, encoder_number, low_number}
 use Rattle.image_words.proofs.Numbers.{low_number_lem}
 use Rattle.image_state.specs.Image.{image_of}
-use Rattle.image_state.specs.How.{FitsState, head_number, save_pwm, words_of, load_of, is_state, flat_of, Loads, Saves}
+use Rattle.std.proofs.Common.{Option}
+use Rattle.refused.specs.Number.{number_of}
+use Rattle.refused.specs.declared.Refusal.{Refusal}
+use Rattle.image_state.specs.How.{refusal_of, FitsState, head_number, save_pwm, words_of, load_of, is_state, flat_of, Loads, Saves}
 use Rattle.image_state.proofs.Flats.{laid_out, flat_back, state_loaded, lists_fit, FitsLists, Sized}
 use Rattle.image_state.proofs.Pads.{filled, zeros_past}
 use Rattle.image_state.proofs.Lawful.{head_small, head_fits}
@@ -44,25 +47,26 @@ second_room s h = omega (arith, all_room s h)
 whole_of : (s : State) → FitsState s → Whole s
 whole_of s f = record { two = f.0; each = λ k h. let b = f.1 k h in record { ten = b.encoders.0; twenty = b.pwms.0; short = λ i. (b.pwms.1 i).5 } }
 
-abbrev made : ℕ → Flat → List ℕ → ℕ → Stream
-made v f a n = record { edition = v / 2 ^ 16; flat = f; carried = a; held = v / 2 ^ 8 % 2 ^ 8; applied = n; refused = v % 2 ^ 8 }
+abbrev made : ℕ → Flat → List ℕ → ℕ → Option Refusal → Stream
+made v f a n r = record { edition = v / 2 ^ 16; flat = f; carried = a; held = v / 2 ^ 8 % 2 ^ 8; applied = n; refused = r }
 
-live_made : (s : List ℕ) → 864 ≤ length s → le_of 8 s 0 / 2 ^ 8 % 2 ^ 8 < 16 → live_of (made (le_of 8 s 0) (flat_of s) (load_many 1 byte 16 s 16) (le_of 8 s 8)) ≡ load_of s
+live_made : (s : List ℕ) → 864 ≤ length s → le_of 8 s 0 / 2 ^ 8 % 2 ^ 8 < 16 → number_of (refusal_of (le_of 8 s 0 % 2 ^ 8)) ≡ le_of 8 s 0 % 2 ^ 8 → live_of (made (le_of 8 s 0) (flat_of s) (load_many 1 byte 16 s 16) (le_of 8 s 8) (refusal_of (le_of 8 s 0 % 2 ^ 8))) ≡ load_of s
 unfolding flat_of
-live_made s h k = loads_same s h k
+live_made s h k e = rw e (loads_same s h k)
 
-loads_made : (s : List ℕ) → Bytes s → is_state s ≡ true → Loads s (made (le_of 8 s 0) (flat_of s) (load_many 1 byte 16 s 16) (le_of 8 s 8))
+loads_made : (s : List ℕ) → Bytes s → is_state s ≡ true → Loads s (made (le_of 8 s 0) (flat_of s) (load_many 1 byte 16 s 16) (le_of 8 s 8) (refusal_of (le_of 8 s 0 % 2 ^ 8)))
 loads_made s b h =
     let p = passed s h in
     record {
-      live = live_made s p.long p.held;
+      live = live_made s p.long p.held p.refused;
       whole = subst Whole (sym (state_loaded s)) (whole_of (load_of s).state (stands s b h).0.banks);
       few = p.held;
       zeros = zeros_past (le_of 8 s 0 / 2 ^ 8 % 2 ^ 8) (load_many 1 byte 16 s 16) (length_many 1 byte s 16 16) p.held p.pads;
     }
 
-pub load_done : (s : List ℕ) (v : ℕ) (f : Flat) (a : List ℕ) (n : ℕ) → Bytes s → is_state s ≡ true → v ≡ le_of 8 s 0 → f ≡ flat_of s → a ≡ load_many 1 byte 16 s 16 → n ≡ le_of 8 s 8 → Loads s (made v f a n)
-load_done s v f a n b h pv pf pa pn = rw (pv, pf, pa, pn) (loads_made s b h)
+pub load_done : (s : List ℕ) (v : ℕ) (f : Flat) (a : List ℕ) (n : ℕ) (r : Option Refusal) → Bytes s → is_state s ≡ true → v ≡ le_of 8 s 0 → f ≡ flat_of s → a ≡ load_many 1 byte 16 s 16 → n ≡ le_of 8 s 8
+    → r ≡ refusal_of (v % 2 ^ 8) → Loads s (made v f a n r)
+load_done s v f a n r b h pv pf pa pn pr = rw (pr, pv, pf, pa, pn) (loads_made s b h)
 
 -- ---- saving
 
@@ -70,7 +74,7 @@ pub held_room : (x : Stream) → Saves x → x.held < 16
 held_room x s = s.few
 
 pub edition_room : (x : Stream) → Saves x → x.edition < 5
-edition_room x s = (head_small x.refused (length (take x.held x.carried)) x.edition (head_fits (live_of x) s.fits)).edition
+edition_room x s = (head_small (number_of x.refused) (length (take x.held x.carried)) x.edition (head_fits (live_of x) s.fits)).edition
 
 abbrev lists_in : Flat → List ℕ
 lists_in f = save_many (le_bytes 8) f.selects ++ (save_many (save_word i2c_number) f.i2cs ++ (save_many (save_word encoder_number) f.encoders ++ save_many save_pwm f.pwms))
@@ -80,13 +84,13 @@ pieces a a' b c c' t t' p q r = rw (p, q, r)
 
 -- the image by the flat arrays
 image_flat : (x : Stream) → Saves x → Sized x.flat → length x.carried ≡ 16
-    → words_of (live_of x) ≡ le_bytes 8 (head_number x.refused x.held x.edition) ++ (le_bytes 8 x.applied ++ (x.carried ++ lists_in x.flat))
+    → words_of (live_of x) ≡ le_bytes 8 (head_number (number_of x.refused) x.held x.edition) ++ (le_bytes 8 x.applied ++ (x.carried ++ lists_in x.flat))
 unfolding words_of
 image_flat x s z l =
     let few = s.few in
     let long : length (take x.held x.carried) ≡ x.held = length-take-le x.held x.carried (omega arith) in
     let full : filled (take x.held x.carried) ≡ x.carried = rw (long, ← s.zeros) (take-append-drop x.held x.carried) in
-    pieces (le_bytes 8 (head_number x.refused (length (take x.held x.carried)) x.edition)) (le_bytes 8 (head_number x.refused x.held x.edition)) (le_bytes 8 x.applied) (filled (take x.held x.carried)) x.carried (lists_in (laid_out (state_of x.flat))) (lists_in x.flat) (ap (λ (n : ℕ). le_bytes 8 (head_number x.refused n x.edition)) long) full (ap lists_in (flat_back x.flat z))
+    pieces (le_bytes 8 (head_number (number_of x.refused) (length (take x.held x.carried)) x.edition)) (le_bytes 8 (head_number (number_of x.refused) x.held x.edition)) (le_bytes 8 x.applied) (filled (take x.held x.carried)) x.carried (lists_in (laid_out (state_of x.flat))) (lists_in x.flat) (ap (λ (n : ℕ). le_bytes 8 (head_number (number_of x.refused) n x.edition)) long) full (ap lists_in (flat_back x.flat z))
 
 lows : (l : List Encoder) → Each FitsEncoder l → save_many (save_word low_number) l ≡ save_many (save_word encoder_number) l
 unfolding save_many
@@ -107,7 +111,7 @@ six_puts o₀ o₁ o₂ o₃ o₄ o₅ o₆ a b c d e p p₁ p₂ p₃ p₄ p₅
 whole_image : (o im : List ℕ) → length im ≡ 864 → 864 ≤ length o → sets o 0 im ≡ im ++ drop 864 o
 whole_image o im h k = sets-eq im o 0 (omega arith) ∙ ap (λ (n : ℕ). im ++ drop n o) (let e : 0 + length im ≡ 864 = omega arith in e)
 
-pub stream_saved : (x : Stream) (n : ℕ) (o₀ o₁ o₂ o₃ o₄ o₅ o₆ : List ℕ) → Saves x → 864 ≤ length o₀ → n ≡ head_number x.refused x.held x.edition → o₁ ≡ sets o₀ 0 (le_bytes 8 n)
+pub stream_saved : (x : Stream) (n : ℕ) (o₀ o₁ o₂ o₃ o₄ o₅ o₆ : List ℕ) → Saves x → 864 ≤ length o₀ → n ≡ head_number (number_of x.refused) x.held x.edition → o₁ ≡ sets o₀ 0 (le_bytes 8 n)
     → o₂ ≡ sets o₁ 8 (le_bytes 8 x.applied) → o₃ ≡ sets o₂ 16 x.carried → length x.carried ≡ 16
     → o₄ ≡ sets o₃ 32 (save_many (le_bytes 8) x.flat.selects ++ save_many (save_word i2c_number) x.flat.i2cs) → length x.flat.selects ≡ 2 → length x.flat.i2cs ≡ 2
     → o₅ ≡ sets o₄ 64 (save_many (save_word low_number) x.flat.encoders) → length x.flat.encoders ≡ 20
@@ -123,7 +127,7 @@ stream_saved x n o₀ o₁ o₂ o₃ o₄ o₅ o₆ s room pn p₁ p₂ p₃ lc 
     let long-c : length C ≡ 16 = many_long 8 (save_word i2c_number) (λ v. refl) f.i2cs 2 li in
     let long-e : length E ≡ 160 = many_long 8 (save_word low_number) (λ v. refl) f.encoders 20 le in
     let long-sc : length (S ++ C) ≡ 32 = length-append S C ∙ rw (long-s, long-c) in
-    let H = le_bytes 8 (head_number x.refused x.held x.edition) in
+    let H = le_bytes 8 (head_number (number_of x.refused) x.held x.edition) in
     let Q = save_many save_pwm f.pwms in
     six_puts o₀ o₁ o₂ o₃ o₄ o₅ o₆ H (le_bytes 8 x.applied) x.carried (S ++ C) E Q (p₁ ∙ ap (λ (m : ℕ). sets o₀ 0 (le_bytes 8 m)) pn) p₂ p₃ p₄ p₅ p₆ refl refl lc long-sc long-e
     ∙ ap (λ (t : List ℕ). sets o₀ 0 (H ++ (le_bytes 8 x.applied ++ (x.carried ++ t)))) (append_assoc S C (E ++ Q) ∙ ap (λ (t : List ℕ). S ++ (C ++ (t ++ Q))) (lows f.encoders fits.encoders.1))

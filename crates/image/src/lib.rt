@@ -5,6 +5,7 @@ ghost use Rattle.std.specs.Prelude.{◌≡◌, ℕ, true, List, ◌++◌, ◌+�
 ghost use Rattle.std.proofs.lemmas.List.Edits.{sets};
 ghost use Rattle.numbers.specs.Bytes.{byte};
 ghost use Rattle.codec.specs.How.{save_word, save_many, load_many};
+ghost use Rattle.refused.specs.Number.{number_of};
 ghost use Rattle.live_state.specs.How.{live_of};
 ghost use Rattle.numbers.specs.Bytes.{le_bytes};
 ghost use Rattle.image_words.specs.How.{i2c_number, low_number};
@@ -15,10 +16,12 @@ use banks::Flat;
 use encoder::Encoder;
 use i2c::I2c;
 use image_pwm::{pwm_of, registers_number, wave_number};
+use image_state::refusal_of;
 use image_words::{encoder_number, encoder_of, i2c_number, i2c_of};
 use live_state::Stream;
 use numbers::{le64, put64};
 use pwm::Pwm;
+use refused::Refusal;
 
 // ---- the stream in bytes that are a state
 
@@ -44,7 +47,12 @@ fn load_flat(s: &[u8]) -> Flat
     load_each(&mut selects, 32, 8, |at| le64(s, at));
     load_each(&mut i2cs, 48, 8, |at| i2c_of(le64(s, at)));
     load_each(&mut encoders, 64, 8, |at| encoder_of(le64(s, at)));
-    load_each(&mut pwms, 224, 16, |at| pwm_of(le64(s, at), le64(s, at + 8)));
+    load_each(
+        &mut pwms,
+        224,
+        16,
+        |at| pwm_of(le64(s, at), le64(s, at + 8)),
+    );
     Flat {
         selects,
         encoders,
@@ -66,17 +74,19 @@ pub fn load(s: &[u8]) -> Stream
         carried,
         held: ((head >> 8) % 256) as usize,
         applied: le64(s, 8),
-        refused: (head % 256) as u8,
+        refused: refusal_of(head % 256),
     }
 }
 
 // ---- a stream's image. Each function tells how long its array is, which the proof of `save` would not find again.
 
-fn head_number(refused: u8, held: usize, edition: u64) -> u64
+#[tactic(auto, unfolding(image_state::specs::How::head_number))]
+fn head_number(refused: Option<Refusal>, held: usize, edition: u64) -> u64
     requires { (held < 16) × (edition < 5) }
-    ensures { result ≡ head_number refused held edition }
+    ensures { result ≡ head_number (number_of refused) held edition }
 {
-    refused as u64 + 256 * (held as u64) + 65536 * edition
+    let number = refused.map_or(0, Refusal::number);
+    number as u64 + 256 * (held as u64) + 65536 * edition
 }
 
 fn save_carried(a: [u8; 16], out: &mut [u8])

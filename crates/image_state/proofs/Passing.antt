@@ -15,8 +15,11 @@ use Rattle.codec.specs.How.{ok_word, load_many, ok_many}
 use Rattle.codec.proofs.Many.{both}
 use Rattle.codec.proofs.Each.{byte_many, length_many}
 use Rattle.image_words.specs.How.{is_select, is_i2c, is_encoder}
-use Rattle.image_state.specs.How.{ok_pwm, load_of, is_head, is_carried, is_state, flat_of}
+use Rattle.edition.specs.Edition.{known}
+use Rattle.refused.specs.Number.{number_of}
+use Rattle.image_state.specs.How.{refusal_of, is_refusal, ok_pwm, load_of, is_head, is_carried, is_state, flat_of}
 use Rattle.image_state.proofs.Flats.{state_loaded}
+use Rattle.image_state.proofs.Refusals.{refusal_number}
 use Rattle.image_state.proofs.Pads.{padded, padded_there}
 use Rattle.image_state.proofs.Lawful.{head_small, load_at, ok_at}
 
@@ -48,6 +51,7 @@ tests_same s = order (head_in s) (ok_many 1 (λ t j. true) 16 s 16) (padded (le_
 pub record Passed (s : List ℕ) : Type 0 where
   pub long : 864 ≤ length s
   pub held : le_of 8 s 0 / 2 ^ 8 % 2 ^ 8 < 16
+  pub refused : number_of (refusal_of (le_of 8 s 0 % 2 ^ 8)) ≡ le_of 8 s 0 % 2 ^ 8
   pub okay : ok_at s 0 ≡ true
   pub pads : padded (le_of 8 s 0 / 2 ^ 8 % 2 ^ 8) (load_many 1 byte 16 s 16) ≡ true
 
@@ -57,7 +61,9 @@ passed s h =
     let a = both_true (leb 864 (length s)) (head_in s && (ok_many 1 (is_carried (16 + le_of 8 s 0 / 2 ^ 8 % 2 ^ 8)) 16 s 16 && rest_in s)) h in
     let b = both_true (head_in s) (ok_many 1 (is_carried (16 + le_of 8 s 0 / 2 ^ 8 % 2 ^ 8)) 16 s 16 && rest_in s) a.1 in
     let c = both_true (ok_many 1 (is_carried (16 + le_of 8 s 0 / 2 ^ 8 % 2 ^ 8)) 16 s 16) (rest_in s) b.1 in
+    let d = both_true (known (le_of 8 s 0 / 2 ^ 16)) (is_refusal (le_of 8 s 0 % 2 ^ 8) && _) b.0 in
     record {
+      refused = refusal_number (le_of 8 s 0 % 2 ^ 8) (both_true (is_refusal (le_of 8 s 0 % 2 ^ 8)) _ d.1).0;
       long = leb-true 864 (length s) a.0;
       held = (head_small (le_of 8 s 0 % 2 ^ 8) (le_of 8 s 0 / 2 ^ 8 % 2 ^ 8) (le_of 8 s 0 / 2 ^ 16) b.0).held;
       okay = tests_same s ∙ a.1;

@@ -16,4 +16,4 @@ pub returns : goal.returns
 returns c =
     let s = c.args.s.now in
     let carried = c.copy_from_slice.ensures.after ∙ sym (bytes_taken s 16 16 (omega (arith, all_room s c.requires))) in
-    load_done s _ _ _ _ (λ i. omega (arith, c.type_inv.s i)) c.requires c.le64-head.ensures c.load_flat.ensures carried c.le64.ensures
+    load_done s _ _ _ _ _ (λ i. omega (arith, c.type_inv.s i)) c.requires c.le64-head.ensures c.load_flat.ensures carried c.le64.ensures c.refusal_of.ensures
