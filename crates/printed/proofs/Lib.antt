@@ -1,4 +1,3 @@
 pub mod Prints
 pub mod OfLogs
 pub mod Readings
-mod Ways

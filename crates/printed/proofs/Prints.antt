@@ -1,13 +1,12 @@
 -- A call that makes bytes or is refused, and what is then written. Assumes nothing.
 use mathlib.Core.Path.{◌≡◌, refl, sym, ap, ◌∙◌}
-use mathlib.Core.Bool.{Bool, true, false}
+use mathlib.Core.Bool.{Bool, true, false, cond}
 use mathlib.Core.List.{List, [], ◌∷◌, ◌++◌}
 use Prim.Native.Nat.{ℕ, ◌^◌, ◌≤◌, ◌<◌}
 use native.Mathlib.Omega.{arith}
 use lib.Dec.{ltb}
 use lib.ListN.{length, length-append}
 use lib.Seq.{take_at, length-take-le}
-use borrow.Author.Tests.{eq-eqb, ne_eqb, ltb-true, ltb-false}
 use Rattle.decimal.specs.Ascii.{ascii}
 use Rattle.outside.specs.Counts.{IsPrefixLen}
 use Rattle.decimal.specs.Digits.{digits_of}
@@ -15,8 +14,11 @@ use Rattle.decimal.specs.Put.{Put}
 use Rattle.decimal.proofs.Back.{twenty_digits}
 use Rattle.decimal.proofs.Puts.{put_whole, put_long}
 use Rattle.text.specs.Text.{refused_text, refused_record_text}
-use Rattle.printed.specs.declared.Printed.{Printed}
-use Rattle.printed.specs.Printed.{Prints, Printing}
+use Rattle.std.specs.Prelude.{Result, Ok, Err, Some, None}
+use Rattle.refused.specs.Number.{number}
+use Rattle.refused.proofs.Numbers.{one_to_twenty}
+use Rattle.made.specs.declared.Failure.{Failure}
+use Rattle.printed.specs.Printed.{Prints, Printing, failure_text}
 
 -- bytes in front of others, and bytes put at the front
 pub fronts : (s rest : List ℕ) → IsPrefixLen (length s) (s ++ rest)
@@ -38,30 +40,28 @@ record_short k i h l =
     let first = ascii "refused " ++ digits_of k in
     omega (arith, length-append (first ++ ascii " record " ++ digits_of i) (10 ∷ []), length-append (first ++ ascii " record ") (digits_of i), length-append first (ascii " record "), length-append (ascii "refused ") (digits_of k), twenty_digits k h, twenty_digits i l)
 
--- a call has left `mid`: the text's bytes in front of others, n of them, or was refused by k
-module _ (k i n : ℕ) (text rest mid out' : List ℕ) (p : Printed) (x : Printing k i n mid out' p) where
-  -- whatever the index, which is then not told
-  pub prints_made : (j : ℕ) → k ≡ 0 → n ≡ length text → mid ≡ text ++ rest → Prints k j text out' p
-  prints_made j z m e =
-      let q : p ≡ record { size = length text; refused = false } = (x.made z).0 ∙ ap {B = Printed} (λ (y : ℕ). record { size = y; refused = false }) m in
-      let o : out' ≡ text ++ rest = (x.made z).1 ∙ e in
-      rw (q, o) (record { counts = fronts text rest; bytes = rw (eq-eqb k 0 z) (take_at text rest (length text) refl); where_to = rw (eq-eqb k 0 z) })
+failure_short : (f : Failure) → f.index < 2 ^ 64 → length (failure_text f) ≤ 57
+failure_short f i = by (ltb (number f.refusal) 7)
+  where
+    small : number f.refusal < 2 ^ 64
+    small = omega (arith, one_to_twenty f.refusal)
 
-  pub prints_refused : (k ≡ 0 → ⊥) → k < 2 ^ 64 → i < 2 ^ 64 → 57 ≤ length mid → Prints k i text out' p
-  prints_refused nz ks is room = by (ltb k 7) refl
-    where
-      by : (t : Bool) → ltb k 7 ≡ t → Prints k i text out' p
-      by true e =
-          let w = x.log nz (ltb-true k 7 e) in
-          record {
-            counts = put_counts mid out' (refused_text k) p.size w;
-            bytes = rw (ne_eqb k 0 nz, e) (put_whole mid (refused_text k) out' p.size w (omega (arith, refused_short k ks))).1;
-            where_to = rw (ne_eqb k 0 nz) (x.says nz);
-          }
-      by false e =
-          let w = x.of_record (ltb-false k 7 e) in
-          record {
-            counts = put_counts mid out' (refused_record_text k i) p.size w;
-            bytes = rw (ne_eqb k 0 nz, e) (put_whole mid (refused_record_text k i) out' p.size w (omega (arith, record_short k i ks is))).1;
-            where_to = rw (ne_eqb k 0 nz) (x.says nz);
-          }
+    by : (t : Bool) → length (cond t (refused_text (number f.refusal)) (refused_record_text (number f.refusal) f.index)) ≤ 57
+    by true = omega (arith, refused_short (number f.refusal) small)
+    by false = record_short (number f.refusal) f.index small i
+
+-- a call has left `mid`: the text's bytes in front of others, n of them, or has failed
+module _ (text mid out' : List ℕ) (p : Result ℕ ℕ) where
+  pub prints_made : (n : ℕ) (rest : List ℕ) → Printing (Ok n) mid out' p → n ≡ length text → mid ≡ text ++ rest → Prints None text out' p
+  prints_made n rest x m e =
+      let q : p ≡ Ok (length text) = x.0 ∙ ap Ok m in
+      let o : out' ≡ text ++ rest = x.1 ∙ e in
+      rw (q, o) (record { counts = fronts text rest; bytes = take_at text rest (length text) refl; where_to = refl })
+
+  pub prints_refused : (f : Failure) → Printing (Err f) mid out' p → f.index < 2 ^ 64 → 57 ≤ length mid → Prints (Some f) text out' p
+  prints_refused f x i room =
+      rw x.1 (record {
+        counts = put_counts mid out' (failure_text f) x.0 x.2;
+        bytes = (put_whole mid (failure_text f) out' x.0 x.2 (omega (arith, failure_short f i))).1;
+        where_to = refl;
+      })

@@ -1,33 +1,31 @@
 // What a command that makes a log or a dump writes: the bytes that a call has made, for standard output, or its refusal, for standard error.
 #![tactic(auto)]
 
-ghost use Rattle.printed.specs.Printed.{Printing};
+ghost use Rattle.decimal.specs.Put.{Put};
+ghost use Rattle.printed.specs.Printed.{Printing, failure_text};
 
-// How many bytes, and whether they say a refusal.
-#[derive(Clone, Copy)]
-pub struct Printed {
-    pub size: usize,
-    pub refused: bool,
+use made::Failure;
+
+// How many bytes of a text are for standard output or, as an error, for standard error.
+pub type Printed = Result<usize, usize>;
+
+// A record is refused by 7 and above.
+fn put_failure(text: &mut [u8], failure: Failure) -> usize
+    ensures { Put text.old 0 (failure_text failure) text.new result }
+{
+    let number = failure.refusal.number() as u64;
+    if number < 7 {
+        return text_answers::refused_text(text, number);
+    }
+    text_answers::refused_record_text(text, number, failure.index as u64)
 }
 
-// A call has left `size` bytes at the front of the text, or was refused by a number, 7 and above by a record with this index.
-pub fn told(text: &mut [u8], refused: u8, index: usize, size: usize) -> Printed
-    ensures { Printing refused index size text.old text.new result }
+// A call has left so many bytes at the front of the text, or has failed.
+pub fn told(text: &mut [u8], made: Result<usize, Failure>) -> Printed
+    ensures { Printing made text.old text.new result }
 {
-    if refused == 0 {
-        return Printed {
-            size: size,
-            refused: false,
-        };
-    }
-    if refused < 7 {
-        return Printed {
-            size: text_answers::refused_text(text, refused as u64),
-            refused: true,
-        };
-    }
-    Printed {
-        size: text_answers::refused_record_text(text, refused as u64, index as u64),
-        refused: true,
+    match made {
+        Ok(size) => Ok(size),
+        Err(failure) => Err(put_failure(text, failure)),
     }
 }
