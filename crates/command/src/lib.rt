@@ -5,7 +5,6 @@ ghost use Rattle.std.specs.Prelude.{◌≡◌};
 ghost use Rattle.outside.specs.Counts.{IsPrefixLen};
 ghost use Rattle.command.specs.Asked.{alone_of, of_two, command_of};
 
-use rate_print::same;
 use std::rt::Env;
 
 // What the arguments ask for.
@@ -27,57 +26,45 @@ pub enum Command {
 fn alone(word: &[u8]) -> Command
     ensures { result ≡ alone_of word.now }
 {
-    if same(word, b"dump") {
-        return Command::Dump;
+    if word == b"dump".as_slice() {
+        Command::Dump
+    } else if word == b"shrink".as_slice() {
+        Command::Shrink
+    } else if word == b"sign".as_slice() {
+        Command::Sign
+    } else if word == b"version".as_slice() {
+        Command::Version
+    } else {
+        Command::Help
     }
-    if same(word, b"shrink") {
-        return Command::Shrink;
-    }
-    if same(word, b"sign") {
-        return Command::Sign;
-    }
-    if same(word, b"version") {
-        return Command::Version;
-    }
-    Command::Help
 }
 
 // By the first argument of two.
 fn of_two(word: &[u8]) -> Command
     ensures { result ≡ of_two word.now }
 {
-    if same(word, b"judge") {
-        return Command::Judge;
+    if word == b"judge".as_slice() {
+        Command::Judge
+    } else if word == b"stream".as_slice() {
+        Command::Stream
+    } else {
+        Command::Help
     }
-    if same(word, b"stream") {
-        return Command::Stream;
-    }
-    Command::Help
 }
 
 // By the first argument and how many there are, the program's own name among them.
 pub fn asked(word: &[u8], words: usize) -> Command
     ensures { result ≡ command_of word.now words }
 {
-    if words < 2 {
-        return Command::Replay;
+    let write = word == b"write".as_slice();
+    match words {
+        0 | 1 => Command::Replay,
+        2 => alone(word),
+        3 | 4 if write => Command::Write,
+        3 => of_two(word),
+        4 => Command::Rate,
+        _ => Command::Help,
     }
-    if words == 2 {
-        return alone(word);
-    }
-    if same(word, b"write") {
-        if words <= 4 {
-            return Command::Write;
-        }
-        return Command::Help;
-    }
-    if words == 3 {
-        return of_two(word);
-    }
-    if words == 4 {
-        return Command::Rate;
-    }
-    Command::Help
 }
 
 pub fn usage(text: &mut [u8]) -> usize
@@ -115,14 +102,9 @@ pub fn rate(rt: &impl Env, text: &mut [u8]) -> usize
 {
     let mut word = outside::buffer();
     let n = outside::arg(rt, 1, &mut word);
-    let said = rate_print::say(
-        text,
-        rate_print::asked(&word[..n]),
-        number(rt, 2),
-        number(rt, 3),
-    );
-    if said == 0 {
+    let question = rate_print::asked(&word[..n]);
+    if question.is_none() {
         return usage(text);
     }
-    said
+    rate_print::say(text, question, number(rt, 2), number(rt, 3))
 }

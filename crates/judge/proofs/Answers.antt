@@ -10,6 +10,7 @@ use native.Mathlib.Decide.{ℕ_discrete}
 use lib.ListN.{length, take}
 use lib.Seq.{take_all}
 use Rattle.fold.specs.Run.{Course, going, stopped, tally}
+use Rattle.refused.specs.Number.{number}
 use Rattle.wire.specs.Decode.{asks, reads_in}
 use Rattle.trailer.specs.Trailer.{records_of}
 use Rattle.trailer.proofs.Laws.{few_records}
@@ -62,7 +63,7 @@ failed (no m) n = refl
 
 -- the answer by whether the length fits, the comparisons, and the index
 picked : Course → Bool → Bool → Bool → ℕ → ℕ × ℕ × ℕ
-picked (stopped k) l p q i = (k, 0, 0)
+picked (stopped k) l p q i = (number k, 0, 0)
 picked going false p q i = (17, 0, 0)
 picked going true true true i = (0, 3, 0)
 picked going true true false i = (0, 1, 0)
@@ -102,7 +103,7 @@ module _ (log ts : List ℕ) where
       rw (c, passed fits l, failed (alike ts (plain log)) p, failed (alike ts (opposite log)) q, e)
 
   an_answer : (c : Course) → (replayed log).course ≡ c → Dec (length ts ≡ length (plain log)) → Dec (ts ≡ plain log) → Dec (ts ≡ opposite log) → (a : ℕ × ℕ × ℕ) × Judged log ts a
-  an_answer (stopped k) c l p q = ((k, 0, 0), refused c)
+  an_answer (stopped k) c l p q = ((number k, 0, 0), refused c)
   an_answer going c (no l) p q = ((17, 0, 0), other_length c l)
   an_answer going c (yes l) (yes p) (yes q) = ((0, 3, 0), both c p q)
   an_answer going c (yes l) (yes p) (no q) = ((0, 1, 0), same c p q)

@@ -13,7 +13,10 @@ use lib.ListN.{length}
 use Rattle.numbers.specs.Bytes.{le_of, le_bytes}
 use Rattle.trailer.specs.Trailer.{trailer_of, records_of, edition_in}
 use Rattle.trailer.specs.declared.Trailer.{Trailer}
-use Rattle.trailer.specs.declared.Trailer.TheVariants.{Found, Refused}
+use Rattle.std.specs.Prelude.{Result, Ok, Err}
+use Rattle.refused.specs.declared.Refusal.{Refusal}
+use Rattle.refused.specs.declared.Refusal.TheVariants.{OutputTooShort}
+use Rattle.refused.specs.Number.{number}
 use Rattle.trailer.proofs.Laws.{one_to_five}
 use Rattle.banks.specs.declared.State.{State}
 use Rattle.banks.specs.State.{fresh}
@@ -27,23 +30,23 @@ use Rattle.judge.specs.Facts.{Shown}
 use Rattle.judge.proofs.Answers as answers
 use Rattle.judge.proofs.Still.{still_only, still_same}
 
-not_six : Number 6 → ⊥
+not_six : Number OutputTooShort → ⊥
 not_six (inl h) = omega arith
 not_six (inr (inl e)) = omega arith
 not_six (inr (inr e)) = omega arith
 
-never_six : (log : List ℕ) → (replayed log).course ≡ stopped 6 → ⊥
+never_six : (log : List ℕ) → (replayed log).course ≡ stopped OutputTooShort → ⊥
 unfolding replay_of replay_from
 never_six log six = by (trailer_of log) refl
   where
-    by : (t : Trailer) → trailer_of log ≡ t → ⊥
-    by (Refused k) e =
-        let is : stopped k ≡ stopped 6 = sym (ap (λ (t : Trailer). (replay_from t log 16_384).course) e) ∙ six in
-        let k-is : k ≡ 6 = cc in
-        omega (arith, one_to_five log k e)
-    by (Found a n o) e =
-        let run = replays.replayed log a n o 16_384 e (omega (arith, answers.has_room log)) in
-        not_six (run_number (edition_in log) fresh (records_of log) 6 (sym (ap (λ (x : Run State ℕ). x.course) run) ∙ six))
+    by : (t : Result Trailer Refusal) → trailer_of log ≡ t → ⊥
+    by (Err k) e =
+        let is : stopped k ≡ stopped OutputTooShort = sym (ap (λ (t : Result Trailer Refusal). (replay_from t log 16_384).course) e) ∙ six in
+        let k-is : k ≡ OutputTooShort = cc in
+        omega (arith, one_to_five log k e, ap number k-is)
+    by (Ok t) e =
+        let run = replays.replayed log t 16_384 e (omega (arith, answers.has_room log)) in
+        not_six (run_number (edition_in log) fresh (records_of log) OutputTooShort (sym (ap (λ (x : Run State ℕ). x.course) run) ∙ six))
 
 pub shown : (log ts : List ℕ) → Shown log ts
 shown log ts =

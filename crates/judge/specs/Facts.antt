@@ -3,6 +3,7 @@
 use Rattle.std.specs.Prelude.{ℕ, ◌≡◌, ◌⊎◌, List, ◌∷◌, ◌++◌, true}
 use Rattle.edition.specs.declared.Edition.{Edition}
 use Rattle.fold.specs.Turn.{reads}
+use Rattle.refused.specs.declared.Refusal.TheVariants.{OutputTooShort}
 use Rattle.fold.specs.Run.{going, stopped}
 use Rattle.trailer.specs.Trailer.{records_of, edition_in}
 use Rattle.replay.specs.Replay.{played, replayed}
@@ -19,7 +20,7 @@ pub record Shown (log ts : List ℕ) : Type 0 where
   pub one : (a : ℕ × ℕ × ℕ) × Judged log ts a
   pub alone : (a b : ℕ × ℕ × ℕ) → Judged log ts a → Judged log ts b → a ≡ b
   -- "6 is not given here"
-  pub no_six : (replayed log).course ≡ stopped 6 → ⊥
+  pub no_six : (replayed log).course ≡ stopped OutputTooShort → ⊥
   -- "both": the transcript is the readings, and their negation leaves them as they are
   pub when_both : Judged log ts (0, 3, 0) → (ts ≡ plain log) × Still (edition_in log) (records_of log)
   pub both_when : (replayed log).course ≡ going → ts ≡ plain log → Still (edition_in log) (records_of log) → Judged log ts (0, 3, 0)

@@ -12,6 +12,8 @@ use Rattle.trailer.specs.Trailer.{records_at, records_of}
 use Rattle.trailer.specs.declared.Trailer.{Trailer}
 use Rattle.wire.proofs.Laws.{first_byte}
 use Rattle.trailer.proofs.Laws.{ends}
+use Rattle.std.specs.Prelude.{Result, Ok}
+use Rattle.refused.specs.declared.Refusal.{Refusal}
 use Rattle.transcript.specs.declared.Verdict.{Verdict}
 use Rattle.transcript.specs.declared.Verdict.TheVariants.{Negated, Both}
 use Rattle.transcript.specs.Judge.{neg, of_cntr, plain, opposite, same, negated, both, different, Answer}
@@ -50,7 +52,7 @@ module _ (log : List ℕ) (start : ℕ) (out ts : List ℕ) (ready : Ready log s
   this = placed 16 start log
 
   all_records : records_of log ≡ between this 0 n
-  all_records = ap (λ (t : Trailer). records_at t log) ready.found ∙ records_placed 16 start n log
+  all_records = ap (λ (t : Result Trailer Refusal). records_at t log) ready.found ∙ records_placed 16 start n log
 
   -- what is in out is the plain transcript
   out_long : length (plain log) ≤ length out
@@ -63,7 +65,7 @@ module _ (log : List ℕ) (start : ℕ) (out ts : List ℕ) (ready : Ready log s
   in_out m h = sym (take-take m (length (plain log)) out h) ∙ ap (take m) ready.wrote
 
   -- the plain comparison, where the negated one has failed
-  settled : (r : Verdict) → Plainly ts out r → (ts ≡ opposite log → ⊥) → Answer log ts r
+  settled : (r : Verdict) → Plainly ts out r → (ts ≡ opposite log → ⊥) → Answer log ts (Ok r)
   settled r (all a) d =
       let n : 8 * (length ts / 8) ≡ length ts = omega (arith, ready.long, plain_long log ready.accepted) in
       same ready.accepted (sym (take_all (length ts) ts (omega arith)) ∙ (rw n at a) ∙ in_out (length ts) (omega (arith, ready.long)) ∙ take_all (length ts) (plain log) (omega (arith, ready.long))) d
@@ -87,15 +89,15 @@ module _ (log : List ℕ) (start : ℕ) (out ts : List ℕ) (ready : Ready log s
       is_opposite : ts ≡ opposite log
       is_opposite = whole ts (opposite log) ready.long (opposite_long log ready.accepted) g.agrees
 
-      pub ends_both : still ≡ true → Answer log ts Both
+      pub ends_both : still ≡ true → Answer log ts (Ok Both)
       ends_both e = both ready.accepted (is_opposite ∙ sym (whole (plain log) (opposite log) refl (opposite_long log ready.accepted) (g.stands e))) is_opposite
 
-      pub ends_negated : still ≡ false → Answer log ts Negated
+      pub ends_negated : still ≡ false → Answer log ts (Ok Negated)
       ends_negated e = negated ready.accepted (λ p. g.moves e (sym p ∙ is_opposite)) is_opposite
 
     -- ---- one record more
 
-    module _ (not_last : j ≡ length ts / 8 → ⊥) where
+    module _ (not_last : j < length ts / 8) where
       more : i < n
       more =
           let none_left : n ≤ i → ⊥ = λ h. (
@@ -117,7 +119,7 @@ module _ (log : List ℕ) (start : ℕ) (out ts : List ℕ) (ready : Ready log s
       at_in_log k h = omega (arith, a_record)
 
       pub place_fits : (k : ℕ) → k ≤ 16 → Fits w64 (at + k)
-      place_fits k h = record { fits = omega (arith, a_record, ends log start n ready.edition ready.found) }
+      place_fits k h = record { fits = omega (arith, a_record, ends log (record { start = start; count = n; edition = ready.edition }) ready.found) }
 
       pub nearer : length log - (at + 16) < length log - at
       nearer = omega (arith, a_record)
@@ -190,7 +192,7 @@ module _ (log : List ℕ) (start : ℕ) (out ts : List ℕ) (ready : Ready log s
               ∙ rw (is_cntr, plain_at)
 
           -- the transcript has something else
-          pub not_opposite : (t ≡ cond c (neg v) v → ⊥) → ts ≡ opposite log → ⊥
+          not_opposite : (t ≡ cond c (neg v) v → ⊥) → ts ≡ opposite log → ⊥
           not_opposite d e = d (is ∙ ap (λ (l : List ℕ). le_of 8 l (8 * j)) e ∙ opposite_at)
 
           -- or what it should have, x
@@ -209,27 +211,18 @@ module _ (log : List ℕ) (start : ℕ) (out ts : List ℕ) (ready : Ready log s
               moves = q;
             }
 
-          pub other_on : c ≡ false → t ≡ v → ((k : ℕ) → Fits w8 (get_or ts k 0)) → Going log start ts still (at + 16) (j + 1)
-          other_on f a bytes = reads_on v (sym (rw f)) a bytes still (λ s. (s, refl)) g.moves
+            unmoved : plain log ≡ opposite log → x ≡ v
+            unmoved p = e ∙ sym opposite_at ∙ ap (λ (l : List ℕ). le_of 8 l (8 * j)) (sym p) ∙ plain_at
 
-          unmoved : (w : ℕ) → w ≡ cond c (neg v) v → plain log ≡ opposite log → w ≡ v
-          unmoved w e p = e ∙ sym opposite_at ∙ ap (λ (l : List ℕ). le_of 8 l (8 * j)) (sym p) ∙ plain_at
-
-          pub cntr_on : (w : ℕ) → c ≡ true → w ≡ neg v → t ≡ w → ((k : ℕ) → Fits w8 (get_or ts k 0)) → Going log start ts (still && eqb w v) (at + 16) (j + 1)
-          cntr_on w f h a bytes =
-              let e : w ≡ cond c (neg v) v = h ∙ sym (rw f) in
-              reads_on w e a bytes (still && eqb w v) (λ s. let k = both_true still (eqb w v) s in (k.0, eqb-true w v k.1)) (by still (eqb w v) refl g.moves e)
-            where
-              by : (s d : Bool) → eqb w v ≡ d → (s ≡ false → plain log ≡ opposite log → ⊥) → w ≡ cond c (neg v) v → (s && d) ≡ false → plain log ≡ opposite log → ⊥
-              by true true h m e f p = absurd (true≢false f)
-              by true false h m e f p = eqb-false w v h (unmoved w e p)
-              by false d h m e f p = m refl p
+            pub reads_next : Going log start ts (still && eqb x v) (at + 16) (j + 1)
+            reads_next = reads_on (still && eqb x v) (λ s. let k = both_true still (eqb x v) s in (k.0, eqb-true x v k.1)) (by still (eqb x v) refl g.moves)
+              where
+                by : (s d : Bool) → eqb x v ≡ d → (s ≡ false → plain log ≡ opposite log → ⊥) → (s && d) ≡ false → plain log ≡ opposite log → ⊥
+                by true true h m f p = absurd (true≢false f)
+                by true false h m f p = eqb-false x v h (unmoved p)
+                by false d h m f p = m refl p
 
           -- ---- a reading that is not the negated one: the plain comparison decides
 
-          module _ (r : Verdict) (plainly : Plainly ts out r) where
-            pub other_breaks : c ≡ false → (t ≡ v → ⊥) → Answer log ts r
-            other_breaks f d = settled r plainly (not_opposite (λ e. d (rw f at e)))
-
-            pub cntr_breaks : (w : ℕ) → c ≡ true → w ≡ neg v → (t ≡ w → ⊥) → Answer log ts r
-            cntr_breaks w f h d = settled r plainly (not_opposite (λ e. d ((rw f at e) ∙ sym h)))
+          pub breaks : (x : ℕ) → x ≡ cond c (neg v) v → (t ≡ x → ⊥) → (r : Verdict) → Plainly ts out r → Answer log ts (Ok r)
+          breaks x e d r plainly = settled r plainly (not_opposite (λ h. d (h ∙ sym e)))

@@ -3,6 +3,7 @@
 use Rattle.std.proofs.Common.{◌≡◌, ℕ, ◌*◌, ◌^◌, ◌<◌, Bool, true, false, cond, List, [], ◌∷◌, ◌++◌, length, sym, refl, ap, ◌∙◌, arith, length-append}
 use mathlib.Core.Bool.{false≢true}
 use lib.ListN.{length-map}
+use Rattle.refused.specs.declared.Refusal.{Refusal}
 use Rattle.fold.specs.Turn.{Turn, goes, reads, refused, retell, applies, answers, leaves, given}
 use Rattle.fold.specs.Run.{Run, going, under, after, halted, resumed, run_of}
 use Rattle.fold.proofs.Turns.{retell_applies, retell_given, retell_leaves}
@@ -53,7 +54,7 @@ module _ (turn : State → List ℕ → Turn State ℕ) where
             long = omega (arith, length-append (given (retell (turned r) x)) ys, length-append (given x) (run_of turn (leaves b x) rs).readings, ap length (retell_given (turned r) x), length-map (given x) (turned r), ih.long);
           })
 
-      last : (b : State) (r : List ℕ) (rs : List (List ℕ)) (k : ℕ) → turn b r ≡ refused k → Beside (run_of (negating turn) b (r ∷ rs)) (halted b 0 [] k)
+      last : (b : State) (r : List ℕ) (rs : List (List ℕ)) (k : Refusal) → turn b r ≡ refused k → Beside (run_of (negating turn) b (r ∷ rs)) (halted b 0 [] k)
       last b r rs k e = rw (first_refused (negating turn) b r rs k (ap (retell (turned r)) e)) (record { course = refl; state = refl; long = refl })
 
 -- ---- a reading, behind those of the records before

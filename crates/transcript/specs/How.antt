@@ -1,6 +1,6 @@
 -- How the code gets there: what the pass over the records starts from, and the plain comparison. No public promise rests on this.
 -- Assumes nothing.
-use Rattle.std.specs.Prelude.{◌≡◌, ℕ, ◌+◌, ◌*◌, ◌/◌, ◌<◌, ◌≤◌, List, length, take}
+use Rattle.std.specs.Prelude.{◌≡◌, ℕ, ◌+◌, ◌*◌, ◌/◌, ◌<◌, ◌≤◌, List, length, take, Ok}
 use Rattle.fold.specs.Turn.{Turn}
 use Rattle.fold.specs.Run.{going, run_of}
 use Rattle.fold.specs.Output.{bytes_of}
@@ -8,7 +8,6 @@ use Rattle.numbers.specs.Bytes.{le_bytes}
 use Rattle.banks.specs.declared.State.{State}
 use Rattle.banks.specs.State.{fresh}
 use Rattle.trailer.specs.Trailer.{trailer_of, records_of}
-use Rattle.trailer.specs.declared.Trailer.TheVariants.{Found}
 use Rattle.replay.specs.Replay.{replayed}
 use Rattle.transcript.specs.Judge.{plain}
 use Rattle.transcript.specs.declared.Verdict.{Verdict}
@@ -26,7 +25,7 @@ Agree n s t = take (8 * n) s ≡ take (8 * n) t
 pub record Ready (log : List ℕ) (start : ℕ) (out ts : List ℕ) : Type 0 where
   pub records : ℕ
   pub edition : ℕ
-  pub found : trailer_of log ≡ Found start records edition
+  pub found : trailer_of log ≡ Ok (record { start = start; count = records; edition = edition })
   pub within : start + 16 * records ≤ length log
   pub accepted : (replayed log).course ≡ going
   pub wrote : take (length (plain log)) out ≡ plain log

@@ -1,6 +1,6 @@
 -- Paper 02, c: the readers' transcripts judged. A transcript is bytes: "readings as 8-byte numbers, in log order".
 -- Assumes nothing.
-use Rattle.std.specs.Prelude.{◌≡◌, ℕ, ◌+◌, ◌-◌, ◌*◌, ◌%◌, ◌^◌, Bool, cond, ◌&&◌, List, length, take, ◌==◌, ◌≢◌}
+use Rattle.std.specs.Prelude.{◌≡◌, ℕ, ◌+◌, ◌-◌, ◌*◌, ◌%◌, ◌^◌, Bool, cond, ◌&&◌, List, length, take, ◌==◌, ◌≢◌, Result, Ok, Err}
 use Rattle.fold.specs.Turn.{Turn, retell}
 use Rattle.fold.specs.Run.{going, stopped, run_of}
 use Rattle.fold.specs.Output.{bytes_of}
@@ -11,7 +11,9 @@ use Rattle.banks.specs.State.{fresh}
 use Rattle.replay.specs.Replay.{played, replayed}
 use Rattle.walk.specs.Turn.{turn_of}
 use Rattle.transcript.specs.declared.Verdict.{Verdict}
-use Rattle.transcript.specs.declared.Verdict.TheVariants.{Same, Negated, Both, Different, Refused}
+use Rattle.transcript.specs.declared.Verdict.TheVariants.{Same, Negated, Both, Different}
+use Rattle.refused.specs.declared.Refusal.{Refusal}
+use Rattle.refused.specs.Number.{number}
 
 -- "negated modulo 2^32"
 abbrev pub neg : ℕ → ℕ
@@ -35,7 +37,7 @@ opposite log = bytes_of (le_bytes 8) (run_of (negating (turn_of (edition_in log)
 -- What is answered to a log and a transcript ts, in numbers: the refusal, 0 for none; the verdict; and for the verdict 4 the index.
 pub data Judged (log ts : List ℕ) : ℕ × ℕ × ℕ → Type 0 where
   -- "an accepted log that replays without refusal; otherwise give that log's refusal (6 is not given here ..)"
-  refused : {k : ℕ} → (replayed log).course ≡ stopped k → Judged log ts (k, 0, 0)
+  refused : {k : Refusal} → (replayed log).course ≡ stopped k → Judged log ts (number k, 0, 0)
   -- "A transcript of another length than the readings is refused as 17, after all log checks"
   other_length : (replayed log).course ≡ going → (length ts ≢ length (plain log)) → Judged log ts (17, 0, 0)
   -- 1 "same", 2 "same once every encoder CNTR reading is negated", 3 "both, given instead of either when both hold"
@@ -47,12 +49,12 @@ pub data Judged (log ts : List ℕ) : ℕ × ℕ × ℕ → Type 0 where
       → take (8 * i) ts ≡ take (8 * i) (plain log) → (take (8 * (i + 1)) ts ≢ take (8 * (i + 1)) (plain log)) → Judged log ts (0, 4, i)
 
 -- the numbers of an answer
-abbrev pub verdict_numbers : Verdict → ℕ × ℕ × ℕ
-verdict_numbers Same = (0, 1, 0)
-verdict_numbers Negated = (0, 2, 0)
-verdict_numbers Both = (0, 3, 0)
-verdict_numbers (Different i) = (0, 4, i)
-verdict_numbers (Refused k) = (k, 0, 0)
+abbrev pub verdict_numbers : Result Verdict Refusal → ℕ × ℕ × ℕ
+verdict_numbers (Ok Same) = (0, 1, 0)
+verdict_numbers (Ok Negated) = (0, 2, 0)
+verdict_numbers (Ok Both) = (0, 3, 0)
+verdict_numbers (Ok (Different i)) = (0, 4, i)
+verdict_numbers (Err k) = (number k, 0, 0)
 
-abbrev pub Answer : List ℕ → List ℕ → Verdict → Type 0
+abbrev pub Answer : List ℕ → List ℕ → Result Verdict Refusal → Type 0
 Answer log ts r = Judged log ts (verdict_numbers r)

@@ -1,25 +1,24 @@
 // A transcript, readings of 8 bytes each in log order, beside the readings of a log that replays.
 #![tactic(auto)]
 
-ghost use Rattle.std.specs.Prelude.{◌≡◌, ◌≤◌, ◌&&◌, length, ◌==◌};
+ghost use Rattle.std.specs.Prelude.{◌≡◌, ◌≤◌, ◌&&◌, cond, length, ◌==◌, Ok};
 ghost use Rattle.transcript.specs.Judge.{neg, Answer};
 ghost use Rattle.transcript.specs.How.{Ready, Plainly};
 
 // The transcript is the replay's readings; it is once every encoder CNTR reading is negated; both; or its reading of an index is the
-// first that differs from the replay's. Or the log's refusal, or 17.
+// first that differs from the replay's.
 #[derive(Clone, Copy)]
 pub enum Verdict {
     Same,
     Negated,
     Both,
     Different(usize),
-    Refused(u8),
 }
 
 fn negate(v: u64) -> u64
     ensures { result ≡ neg v }
 {
-    std::num::wrapping_sub_u64(0, v) % 4294967296
+    v.wrapping_neg() % 4_294_967_296
 }
 
 fn is_cntr(block: u8, register: u8) -> bool
@@ -28,66 +27,53 @@ fn is_cntr(block: u8, register: u8) -> bool
     (block == 1) & (register == 2)
 }
 
+// What a reading is once each of an encoder's CNTR is negated.
+fn turned(is_cntr: bool, v: u64) -> u64
+    ensures { result ≡ cond is_cntr (neg v) v }
+{
+    if is_cntr { negate(v) } else { v }
+}
+
 // The transcript with the readings as they are.
 fn plainly(transcript: &[u8], out: &[u8]) -> Verdict
     requires { length transcript.now ≤ length out.now }
     ensures { Plainly transcript.now out.now result }
 {
-    let n = transcript.len() / 8;
-    let mut next: usize = 0;
-    loop {
-        if next == n {
-            break Verdict::Same;
-        }
-        let i = next;
-        next += 1;
+    for i in 0..transcript.len() / 8 {
         let t = numbers::le64(transcript, 8 * i);
         let v = numbers::le64(out, 8 * i);
         if t != v {
-            break Verdict::Different(i);
+            return Verdict::Different(i);
         }
     }
+    Verdict::Same
 }
 
-// The transcript with the readings as they are once each encoder CNTR reading is negated, record by record; where one differs, with the
-// readings as they are. While none does, the two are the same just if each CNTR reading is still: its own negation.
+// The transcript with the readings as they are once each encoder CNTR reading is negated; where one differs, with the readings as they
+// are. While none does, the two are the same just if each CNTR reading is still: its own negation.
 pub fn compare(log: &[u8], start: usize, out: &[u8], transcript: &[u8]) -> Verdict
     requires { Ready log.now start out.now transcript.now }
-    ensures { Answer log.now transcript.now result }
+    ensures { Answer log.now transcript.now (Ok result) }
 {
-    let n = transcript.len() / 8;
     let mut still = true;
     let mut at = start;
-    let mut j: usize = 0;
-    loop {
-        if j == n {
-            if still {
-                break Verdict::Both;
-            }
-            break Verdict::Negated;
-        }
-        if log[at] != 2 {
+    for j in 0..transcript.len() / 8 {
+        // to the record of this reading
+        while log[at] != 2 {
             at += 16;
-            continue;
-        }
-        if is_cntr(log[at + 1], log[at + 3]) {
-            let t = numbers::le64(transcript, 8 * j);
-            let v = numbers::le64(out, 8 * j);
-            let w = negate(v);
-            if t != w {
-                break plainly(transcript, out);
-            }
-            still = still & (w == v);
-            at += 16;
-            j += 1;
-            continue;
         }
         let t = numbers::le64(transcript, 8 * j);
         let v = numbers::le64(out, 8 * j);
-        if t != v {
-            break plainly(transcript, out);
+        let wanted = turned(is_cntr(log[at + 1], log[at + 3]), v);
+        if t != wanted {
+            return plainly(transcript, out);
         }
+        still = still & (wanted == v);
         at += 16;
-        j += 1;
+    }
+    if still {
+        Verdict::Both
+    } else {
+        Verdict::Negated
     }
 }

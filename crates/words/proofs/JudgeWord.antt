@@ -1,13 +1,11 @@
 -- The parts of a verdict's number fit their places, and there is one such number. Assumes nothing.
 use mathlib.Core.Path.{◌≡◌, sym, ap, ◌∙◌}
 use mathlib.Core.List.{List}
-use Prim.Native.Nat.{ℕ, ◌+◌, ◌*◌, ◌/◌, ◌%◌, ◌^◌, ◌≤◌, ◌<◌}
-use native.Mathlib.Nat.{mul-le-mul_right}
+use Prim.Native.Nat.{ℕ, ◌+◌, ◌*◌, ◌/◌, ◌%◌, ◌^◌, ◌<◌}
 use native.Mathlib.Omega.{arith}
-use mir.Syntax.{w64}
-use mir.Val.{Fits}
+use Rattle.std.specs.Prelude.{Result}
+use Rattle.refused.specs.declared.Refusal.{Refusal}
 use Rattle.transcript.specs.declared.Verdict.{Verdict}
-use Rattle.transcript.specs.declared.Verdict.TheVariants.{Different, Refused}
 use Rattle.transcript.specs.Judge.{Judged, verdict_numbers, Answer}
 use Rattle.judge.proofs.Answers.{small_index, no_two}
 use Rattle.words.specs.Word.{judged_in}
@@ -28,25 +26,8 @@ parts w k v i p q e =
     let c : w / 2 ^ 16 ≡ i = omega arith in
     cc
 
--- the arms of the code
-module _ (r : Verdict) (i : ℕ) (e : r ≡ Different i) (h : (verdict_numbers r).2 < 2048) where
-  small : i < 2048
-  small = rw e at h
-
-  pub index_place : (a : ℕ) → a ≤ 65_536 → Fits w64 (a * i)
-  index_place a l = record { fits = omega (arith, small, mul-le-mul_right i l) }
-
-  pub index_beside : (a b : ℕ) → a ≤ 65_536 → b ≤ 65_536 → Fits w64 (b + a * i)
-  index_beside a b l k = record { fits = omega (arith, small, mul-le-mul_right i l) }
-
-  pub index_part : judged_in (1_024 + 65_536 * i) ≡ verdict_numbers r
-  index_part = rw e (parts (1_024 + 65_536 * i) 0 4 i (omega arith) (omega arith) (omega arith))
-
-pub refused_part : (r : Verdict) (n : ℕ) → r ≡ Refused n → n < 256 → judged_in n ≡ verdict_numbers r
-refused_part r n e h = rw e (parts n n 0 0 h (omega arith) (omega arith))
-
 -- the call
-module _ (log ts : List ℕ) (r : Verdict) (a : Answer log ts r) where
+module _ (log ts : List ℕ) (r : Result Verdict Refusal) (a : Answer log ts r) where
   pub index_small : (verdict_numbers r).2 < 2048
   index_small = small_index log ts (verdict_numbers r) a
 

@@ -7,10 +7,10 @@ use native.Mathlib.Omega.{arith}
 use lib.Dec.{ltb}
 use borrow.Author.Tests.{ltb-false}
 use Rattle.rate.specs.declared.Rule.{Rule}
-use Rattle.rate.specs.declared.Found.{Found}
-use Rattle.rate.specs.declared.Found.TheVariants.{Pair, Refused}
-use Rattle.rate.specs.declared.Rated.{Rated}
-use Rattle.rate.specs.declared.Rated.TheVariants.{Ratio, Unset}
+use Rattle.std.specs.Prelude.{Result}
+use Rattle.refused.specs.declared.Refusal.{Refusal}
+use Rattle.rate.specs.declared.Pair.{Pair}
+use Rattle.rate.specs.declared.Ratio.{Ratio}
 use Rattle.rate.specs.Rate.{pwm, spi, Outcome, outside, loose, none, pair, Answer, found_numbers, period, rate_of, rated_numbers}
 use Rattle.rate.specs.How.{Fair}
 use Rattle.rate_counts.proofs.Dividers.{most}
@@ -71,17 +71,17 @@ module _ (u : Rule) (narrow : Narrow u) (f tol : ℕ) where
       let h = period_small u narrow _ _ p.0 p.1 p.2 in
       omega arith
 
-  pub choice_fits : (r : Found) → Answer u f tol r → (found_numbers r).1 < 2 ^ 8
+  pub choice_fits : (r : Result Pair Refusal) → Answer u f tol r → (found_numbers r).1 < 2 ^ 8
   choice_fits r h = (fits h).choice
 
-  pub x_fits : (r : Found) → Answer u f tol r → (found_numbers r).2 < 2 ^ 16
+  pub x_fits : (r : Result Pair Refusal) → Answer u f tol r → (found_numbers r).2 < 2 ^ 16
   x_fits r h = (fits h).x
 
-  pub found_period_fits : (r : Found) → Answer u f tol r → (found_numbers r).3 < 2 ^ 32
+  pub found_period_fits : (r : Result Pair Refusal) → Answer u f tol r → (found_numbers r).3 < 2 ^ 32
   found_period_fits r h = (fits h).period
 
   -- the number of an answer says the answer
-  pub found_word : (r : Found) (w : ℕ) → Answer u f tol r → w ≡ find_word (found_numbers r) → Outcome u f tol (found_in w)
+  pub found_word : (r : Result Pair Refusal) (w : ℕ) → Answer u f tol r → w ≡ find_word (found_numbers r) → Outcome u f tol (found_in w)
   found_word r w h e =
       let v = found_numbers r in
       let k = fits h in
@@ -89,37 +89,7 @@ module _ (u : Rule) (narrow : Narrow u) (f tol : ℕ) where
 
 pub ruleset parts_fit = (choice_fits, x_fits, found_period_fits, narrow_pwm, narrow_spi)
 
--- the arms of the code
-module _ (r : Found) (c x p : ℕ) (e : r ≡ Pair c x p) where
-  pub choice_part : (found_numbers r).1 < 2 ^ 8 → c < 2 ^ 8
-  choice_part h = rw e at h
-
-  pub x_part : (found_numbers r).2 < 2 ^ 16 → x < 2 ^ 16
-  x_part h = rw e at h
-
-  pub found_period_part : (found_numbers r).3 < 2 ^ 32 → p < 2 ^ 32
-  found_period_part h = rw e at h
-
-  pub pair_part : (w : ℕ) → w ≡ find_word (0, c, x, p) → w ≡ find_word (found_numbers r)
-  pair_part w h = rw e h
-
-pub refused_part : (r : Found) (n : ℕ) → r ≡ Refused n → n ≡ find_word (found_numbers r)
-refused_part r n e = rw e (omega arith)
-
 -- ---- a rate that registers give
-
-module _ (r : Rated) (k p : ℕ) (e : r ≡ Ratio k p) where
-  pub period_part : (rated_numbers r).2 < 2 ^ 24 → p < 2 ^ 24
-  period_part h = rw e at h
-
-  pub clock_part : (rated_numbers r).1 < 2 ^ 32 → k < 2 ^ 32
-  clock_part h = rw e at h
-
-  pub ratio_part : (w : ℕ) → w ≡ rate_word (0, k, p) → w ≡ rate_word (rated_numbers r)
-  ratio_part w h = rw e h
-
-pub unset_part : (r : Rated) (n : ℕ) → r ≡ Unset n → n ≡ rate_word (rated_numbers r)
-unset_part r n e = rw e (omega arith)
 
 module _ (u : Rule) (narrow : Narrow u) (c x : ℕ) where
   record Rates (v : ℕ × ℕ × ℕ) : Type 0 where
@@ -139,13 +109,13 @@ module _ (u : Rule) (narrow : Narrow u) (c x : ℕ) where
           let h = period_small u narrow c x (ltb-false c 1 es) (ltb-false 7 c et) (ltb-false 65_535 x ev) in
           record { refusal = omega arith; clock = narrow.clock; period = omega arith }
 
-  pub period_fits : (r : Rated) → rated_numbers r ≡ rate_of u c x → (rated_numbers r).2 < 2 ^ 24
+  pub period_fits : (r : Result Ratio Refusal) → rated_numbers r ≡ rate_of u c x → (rated_numbers r).2 < 2 ^ 24
   period_fits r e = rw e rated_fits.period
 
-  pub clock_fits : (r : Rated) → rated_numbers r ≡ rate_of u c x → (rated_numbers r).1 < 2 ^ 32
+  pub clock_fits : (r : Result Ratio Refusal) → rated_numbers r ≡ rate_of u c x → (rated_numbers r).1 < 2 ^ 32
   clock_fits r e = rw e rated_fits.clock
 
-  pub rated_word : (r : Rated) (w : ℕ) → rated_numbers r ≡ rate_of u c x → w ≡ rate_word (rated_numbers r) → rated_in w ≡ rate_of u c x
+  pub rated_word : (r : Result Ratio Refusal) (w : ℕ) → rated_numbers r ≡ rate_of u c x → w ≡ rate_word (rated_numbers r) → rated_in w ≡ rate_of u c x
   rated_word r w e l =
       let v = rate_of u c x in
       rw (l, e) (rated_back v.0 v.1 v.2 rated_fits.refusal rated_fits.period)

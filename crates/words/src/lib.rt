@@ -2,64 +2,56 @@
 #![tactic(auto)]
 
 ghost use Rattle.std.specs.Prelude.{◌≡◌, ◌<◌, ◌^◌};
+ghost use Rattle.refused.specs.Number.{number_of};
 ghost use Rattle.transcript.specs.Judge.{verdict_numbers};
 ghost use Rattle.rate.specs.Rate.{found_numbers, rated_numbers};
 ghost use Rattle.words.specs.Word.{Word, judged_in};
 ghost use Rattle.words.specs.How.{find_word, rate_word};
 
-use rate::{Found, Rated};
+use rate::{Pair, Ratio};
+use refused::Refusal;
 use transcript::Verdict;
 
-pub fn word(refused: u8, number: usize) -> u64
+pub fn word(refused: Option<Refusal>, number: usize) -> u64
     requires { number < 2 ^ 56 }
-    ensures { Word refused number result }
+    ensures { Word (number_of refused) number result }
 {
-    (refused as u64) + 256 * (number as u64)
+    let low = match refused {
+        Some(refusal) => refusal.number(),
+        None => 0,
+    };
+    u64::from(low) + 256 * (number as u64)
 }
 
-pub fn verdict_word(verdict: Verdict) -> u64
+pub fn verdict_word(verdict: Result<Verdict, Refusal>) -> u64
     requires { (verdict_numbers verdict).2 < 2048 }
     ensures { judged_in result ≡ verdict_numbers verdict }
 {
     match verdict {
-        Verdict::Same => 256,
-        Verdict::Negated => 512,
-        Verdict::Both => 768,
-        Verdict::Different(i) => 1_024 + 65_536 * (i as u64),
-        Verdict::Refused(n) => n as u64,
+        Ok(Verdict::Same) => 256,
+        Ok(Verdict::Negated) => 512,
+        Ok(Verdict::Both) => 768,
+        Ok(Verdict::Different(i)) => 1_024 + 65_536 * (i as u64),
+        Err(refusal) => u64::from(refusal.number()),
     }
 }
 
-fn pair_word(choice: u64, x: u64, period: u64) -> u64
-    requires { (choice < 2 ^ 8) × (x < 2 ^ 16) × (period < 2 ^ 32) }
-    ensures { result ≡ find_word (0, choice, x, period) }
-{
-    256 * choice + 65_536 * x + 4_294_967_296 * period
-}
-
-pub fn find_word(found: Found) -> u64
+pub fn find_word(found: Result<Pair, Refusal>) -> u64
     requires { ((found_numbers found).1 < 2 ^ 8) × ((found_numbers found).2 < 2 ^ 16) × ((found_numbers found).3 < 2 ^ 32) }
     ensures { result ≡ find_word (found_numbers found) }
 {
     match found {
-        Found::Pair { choice, x, period } => pair_word(choice, x, period),
-        Found::Refused(n) => n as u64,
+        Ok(Pair { choice, x, period }) => 256 * choice + 65_536 * x + 4_294_967_296 * period,
+        Err(refusal) => u64::from(refusal.number()),
     }
 }
 
-fn ratio_word(clock: u64, period: u64) -> u64
-    requires { (period < 2 ^ 24) × (clock < 2 ^ 32) }
-    ensures { result ≡ rate_word (0, clock, period) }
-{
-    256 * period + 4_294_967_296 * clock
-}
-
-pub fn rate_word(rated: Rated) -> u64
+pub fn rate_word(rated: Result<Ratio, Refusal>) -> u64
     requires { ((rated_numbers rated).2 < 2 ^ 24) × ((rated_numbers rated).1 < 2 ^ 32) }
     ensures { result ≡ rate_word (rated_numbers rated) }
 {
     match rated {
-        Rated::Ratio { clock, period } => ratio_word(clock, period),
-        Rated::Unset(n) => n as u64,
+        Ok(Ratio { clock, period }) => 256 * period + 4_294_967_296 * clock,
+        Err(refusal) => u64::from(refusal.number()),
     }
 }

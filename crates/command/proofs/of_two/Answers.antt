@@ -3,14 +3,16 @@ use Rattle.rate_print.proofs.Says.{asks, asks_else}
 use Rattle.command.specs.Asked.{of_two}
 use Rattle.command.proofs.of_two.Goals as goal
 
-pub returns-then-same : goal.returns-then-same
-unfolding of_two
-returns-then-same c = search (asks, asks_else)
+ruleset told = (asks, asks_else)
 
-pub returns-then-same-2 : goal.returns-then-same-2
+pub returns-then-eq : goal.returns-then-eq
 unfolding of_two
-returns-then-same-2 c = search (asks, asks_else)
+returns-then-eq c = search told
 
-pub returns : goal.returns
+pub returns-then-eq-2 : goal.returns-then-eq-2
 unfolding of_two
-returns c = search (asks, asks_else)
+returns-then-eq-2 c = search told
+
+pub returns-else-eq-2 : goal.returns-else-eq-2
+unfolding of_two
+returns-else-eq-2 c = search told

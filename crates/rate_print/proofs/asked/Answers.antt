@@ -3,22 +3,24 @@ use Rattle.rate_print.proofs.Says.{asks, asks_else}
 use Rattle.rate_print.specs.Said.{question_of}
 use Rattle.rate_print.proofs.asked.Goals as goal
 
-pub returns-then-same : goal.returns-then-same
-unfolding question_of
-returns-then-same c = search (asks, asks_else)
+ruleset told = (asks, asks_else)
 
-pub returns-then-same-2 : goal.returns-then-same-2
+pub returns-then-eq : goal.returns-then-eq
 unfolding question_of
-returns-then-same-2 c = search (asks, asks_else)
+returns-then-eq c = search told
 
-pub returns-then-same-3 : goal.returns-then-same-3
+pub returns-then-eq-2 : goal.returns-then-eq-2
 unfolding question_of
-returns-then-same-3 c = search (asks, asks_else)
+returns-then-eq-2 c = search told
 
-pub returns-then-same-4 : goal.returns-then-same-4
+pub returns-then-eq-3 : goal.returns-then-eq-3
 unfolding question_of
-returns-then-same-4 c = search (asks, asks_else)
+returns-then-eq-3 c = search told
 
-pub returns : goal.returns
+pub returns-then-eq-4 : goal.returns-then-eq-4
 unfolding question_of
-returns c = search (asks, asks_else)
+returns-then-eq-4 c = search told
+
+pub returns-else-eq-4 : goal.returns-else-eq-4
+unfolding question_of
+returns-else-eq-4 c = search told

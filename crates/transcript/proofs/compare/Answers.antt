@@ -1,0 +1,41 @@
+-- `transcript::compare` meets its contract. Assumes nothing.
+use Rattle.std.proofs.Common.{arith, lit<, lit≤}
+use Rattle.transcript.proofs.Going.{begins, in_log, at_in_log, place_fits, nearer, skips, breaks, reads_next, ends_both, ends_negated}
+use Rattle.transcript.proofs.compare.Goals as goal
+
+pub loop-j-init : goal.loop-j-init
+loop-j-init c = begins _ _ _
+
+pub bounds-log-at : goal.bounds-log-at
+bounds-log-at c = in_log _ _ _ _ c.requires _ _ _ c.loop-at.invariant c.loop-j-test.true
+
+pub overflow_add-at : goal.overflow_add-at
+overflow_add-at c = place_fits _ _ _ _ c.requires _ _ _ c.loop-at.invariant c.loop-j-test.true 16 (lit≤ tt)
+
+pub loop-at-smaller : goal.loop-at-smaller
+loop-at-smaller c = nearer _ _ _ _ c.requires _ _ _ c.loop-at.invariant c.loop-j-test.true
+
+pub loop-at-preserved : goal.loop-at-preserved
+loop-at-preserved c = skips _ _ _ _ c.requires _ _ _ c.loop-at.invariant c.loop-j-test.true c.loop-at-test.true
+
+pub bounds-log-at-in-loop-j : goal.bounds-log-at-in-loop-j
+bounds-log-at-in-loop-j c = at_in_log _ _ _ _ c.requires _ _ _ c.loop-at.invariant c.loop-j-test.true 1 (lit< tt)
+
+pub bounds-log-at-in-loop-j-2 : goal.bounds-log-at-in-loop-j-2
+bounds-log-at-in-loop-j-2 c = at_in_log _ _ _ _ c.requires _ _ _ c.loop-at.invariant c.loop-j-test.true 3 (lit< tt)
+
+pub returns-then-t-wanted : goal.returns-then-t-wanted
+returns-then-t-wanted c =
+    breaks _ _ _ _ c.requires _ _ _ c.loop-at.invariant c.loop-j-test.true c.loop-at-test.false _ _ _ c.le64-t.ensures c.le64-v.ensures c.is_cntr.ensures
+    _ c.turned-wanted.ensures c.if-t-wanted.true _ c.plainly.ensures
+
+pub loop-j-preserved : goal.loop-j-preserved
+loop-j-preserved c =
+    reads_next _ _ _ _ c.requires _ _ _ c.loop-at.invariant c.loop-j-test.true c.loop-at-test.false _ _ _ c.le64-t.ensures c.le64-v.ensures c.is_cntr.ensures
+    _ c.turned-wanted.ensures c.if-t-wanted.false c.type_inv.transcript
+
+pub returns-then-still : goal.returns-then-still
+returns-then-still c = ends_both _ _ _ _ c.requires _ _ _ c.loop-j.invariant (omega (arith, c.loop-j.auto.j-end)) c.if-still.true
+
+pub returns-else-still : goal.returns-else-still
+returns-else-still c = ends_negated _ _ _ _ c.requires _ _ _ c.loop-j.invariant (omega (arith, c.loop-j.auto.j-end)) c.if-still.false

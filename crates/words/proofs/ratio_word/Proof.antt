@@ -1,7 +1,0 @@
--- `words::ratio_word` meets its contract. Assumes nothing.
-use borrow.Author.Rules.{rules}
-use Rattle.words.proofs.ratio_word.Statement.{statement}
-use Rattle.words.proofs.ratio_word.Tie as tie
-
-pub ratio_word_spec : {M : Type 1} → statement M
-ratio_word_spec = tie.close (tie.spec (λ c. search rules) (λ c. search rules) (λ c. search rules) (λ c. search rules))
