@@ -4,50 +4,70 @@ use mathlib.Core.Path.{◌≡◌, refl, sym, ap, ◌∙◌}
 use mathlib.Core.List.{List, [], ◌∷◌, ◌++◌, append_assoc}
 use Prim.Native.Nat.{ℕ, zero, suc, ◌+◌, ◌-◌, ◌*◌, ◌/◌, ◌%◌, ◌^◌, ◌≤◌, ◌<◌}
 use native.Mathlib.Omega.{arith}
-use native.Mathlib.Nat.{add-suc, pow-suc, pow-succ', pow-le-pow_right, mul_comm, div-div-eq-div-mul, div-lt_iff_lt-mul}
-use lib.ListN.{length, take, drop}
-use Rattle.std.proofs.lemmas.List.{drop-drop}
-use lib.Seq.{drop-cons, get_or-append-add, sets, sets-eq}
+use native.Mathlib.Nat.{zero-add, suc-add, add-suc, pow-suc, pow-succ', mul_comm, div-div-eq-div-mul, div-lt_iff_lt-mul}
+use lib.ListN.{length, take, drop, replicate, length-drop}
+use Rattle.std.proofs.lemmas.List.{drop-drop, length-take-le}
+use lib.Seq.{get_or-take, get_or-drop, drop-cons, get_or-append-add, sets, sets-eq}
 use borrow.Rule.Slice.PartMut.{put_mid}
-use Rattle.std.specs.Int.{bytes_low_first, byte_at}
+use Rattle.std.specs.Int.{w64, bytes_low_first, byte_at, from_le_bytes}
 use Rattle.numbers.specs.Bytes.{byte, le_of, le_bytes}
-
--- no byte, and all n of them
-pub le_none : (n at : ℕ) (s : List ℕ) → (0 ≡ le_of (n - n) s at) × (0 < 256 ^ (n - n))
-unfolding le_of
-le_none n at s = let m : n - n ≡ 0 = omega arith in rw m (refl, omega arith)
-
-pub le_all : (n i at v : ℕ) (s : List ℕ) → i ≤ 0 → v ≡ le_of (n - i) s (at + i) → v ≡ le_of n s at
-le_all n i at v s h p = let z : i ≡ 0 = omega arith in let m : n - 0 ≡ n = omega arith in let k : at + 0 ≡ at = omega arith in rw (z, m, k) at p
-
-pub bound_all : (n i v : ℕ) → i ≤ 0 → v < 256 ^ (n - i) → v < 256 ^ n
-bound_all n i v h p = let z : i ≡ 0 = omega arith in let m : n - 0 ≡ n = omega arith in rw (z, m) at p
-
--- one byte more, in front of the last n - i of n bytes
-pub le_next : (n i at v b : ℕ) (s : List ℕ) → 0 < i → i ≤ n → v ≡ le_of (n - i) s (at + i) → b ≡ byte s (at + (i - 1))
-    → 256 * v + b ≡ le_of (n - (i - 1)) s (at + (i - 1))
-unfolding le_of
-le_next n i at v b s h l p q =
-    let m : n - (i - 1) ≡ suc (n - i) = omega arith in
-    let k : at + i ≡ suc (at + (i - 1)) = omega arith in
-    rw (m, p, q, k) (omega arith)
-
-pub bound_next : (n i v b : ℕ) → 0 < i → i ≤ n → v < 256 ^ (n - i) → b < 256 → 256 * v + b < 256 ^ (n - (i - 1))
-bound_next n i v b h l p q =
-    let m : n - (i - 1) ≡ suc (n - i) = omega arith in
-    rw (m, pow-succ' 256 (n - i)) (omega arith)
-
--- at most seven bytes leave room for one more
-pub room_next : (n i v b : ℕ) → 0 < i → i ≤ n → n ≤ 8 → v < 256 ^ (n - i) → b < 256 → 256 * v + b < 2 ^ 64
-room_next n i v b h l m p q =
-    let k : 256 ^ (n - i) ≤ 256 ^ 7 = pow-le-pow_right {n = 256} (omega arith) {i = n - i} {j = 7} (omega arith) in
-    omega arith
 
 -- behind other bytes
 pub le_behind : (n : ℕ) (p s : List ℕ) (at : ℕ) → le_of n (p ++ s) (length p + at) ≡ le_of n s at
 unfolding le_of
 le_behind zero p s at = refl
 le_behind (suc n) p s at = rw (get_or-append-add p s at 0, ← add-suc (length p) at, le_behind n p s (suc at))
+
+-- a part's number
+pub le_part : (w n i at : ℕ) (s : List ℕ) → i + n ≤ w → le_of n (take w (drop at s)) i ≡ le_of n s (at + i)
+unfolding le_of
+le_part w zero i at s h = refl
+le_part w (suc n) i at s h = rw (get_or-take w (drop at s) i 0 (omega arith), get_or-drop at s i 0, le_part w n (suc i) at s (omega arith), add-suc at i)
+
+pub le_small : (n at : ℕ) (s : List ℕ) → ((i : ℕ) → byte s i < 256) → le_of n s at < 256 ^ n
+unfolding le_of
+le_small zero at s b = omega arith
+le_small (suc n) at s b = rw (pow-succ' 256 n) (omega (arith, b at, le_small n (suc at) s b))
+
+-- zeros behind a number's bytes change nothing
+abbrev zeros : ℕ → List ℕ
+zeros m = replicate m 0
+
+zero_read : (m k : ℕ) → byte (zeros m) k ≡ 0
+zero_read zero k = refl
+zero_read (suc m) zero = refl
+zero_read (suc m) (suc k) = zero_read m k
+
+le_zero : (m at : ℕ) (z : List ℕ) → ((i : ℕ) → byte z i ≡ 0) → le_of m z at ≡ 0
+unfolding le_of
+le_zero zero at z h = refl
+le_zero (suc m) at z h = omega (arith, h at, le_zero m (suc at) z h)
+
+le_padded : (m : ℕ) (p z : List ℕ) → le_of m z 0 ≡ 0 → le_of (length p + m) (p ++ z) 0 ≡ le_of (length p) p 0
+unfolding le_of
+le_padded m [] z h = ap (λ (k : ℕ). le_of k z 0) (zero-add m) ∙ h
+le_padded m (x ∷ p) z h = rw (suc-add (length p) m, le_behind (length p + m) (x ∷ []) (p ++ z) 0, le_behind (length p) (x ∷ []) p 0, le_padded m p z h)
+
+eight : (b : List ℕ) → from_le_bytes w64 b ≡ le_of 8 b 0
+unfolding le_of
+eight b = omega arith
+
+pub le_read : (n at v : ℕ) (s p : List ℕ) → n ≤ 8 → at + n ≤ length s → p ≡ take (at + n - at) (drop at s) → v ≡ from_le_bytes w64 (p ++ drop n (zeros 8)) → v ≡ le_of n s at
+le_read n at v s p h l q e =
+    let w : at + n - at ≡ n = omega arith in
+    let part : p ≡ take n (drop at s) = rw w at q in
+    let long : length p ≡ n = ap length part ∙ length-take-le n (drop at s) (omega (arith, length-drop at s)) in
+    let whole : 8 ≡ length p + (8 - n) = omega arith in
+    let none : le_of (8 - n) (drop n (zeros 8)) 0 ≡ 0 = le_zero (8 - n) 0 (drop n (zeros 8)) (λ i. get_or-drop n (zeros 8) i 0 ∙ zero_read 8 (n + i)) in
+    let z : at + 0 ≡ at = omega arith in
+    e
+    ∙ eight (p ++ drop n (zeros 8))
+    ∙ ap (λ (m : ℕ). le_of m (p ++ drop n (zeros 8)) 0) whole
+    ∙ le_padded (8 - n) p (drop n (zeros 8)) none
+    ∙ ap (λ (m : ℕ). le_of m p 0) long
+    ∙ ap (λ (r : List ℕ). le_of n r 0) part
+    ∙ le_part n n 0 at s (omega arith)
+    ∙ ap (le_of n s) z
 
 -- a number of n bytes is what its bytes say
 pub le_bytes_lem : (n v : ℕ) (rest : List ℕ) → v < 256 ^ n → le_of n (le_bytes n v ++ rest) 0 ≡ v

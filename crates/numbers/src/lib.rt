@@ -18,11 +18,9 @@ pub fn le<const N: usize>(s: &[u8], at: usize) -> u64
     ensures value { result ≡ le_of N s.now at }
     ensures bound { result < 256 ^ N }
 {
-    let mut number: u64 = 0;
-    for i in (0..N).rev() {
-        number = 256 * number + u64::from(s[at + i]);
-    }
-    number
+    let mut bytes = [0u8; 8];
+    bytes[..N].copy_from_slice(&s[at..at + N]);
+    u64::from_le_bytes(bytes)
 }
 
 pub fn le16(s: &[u8], at: usize) -> u64
