@@ -1,5 +1,4 @@
 -- Laws that belong to no one function.
 mod Rounds
-mod Writes
 pub mod Waits
 pub mod Proved

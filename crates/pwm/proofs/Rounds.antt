@@ -1,7 +1,7 @@
 -- Many steps of the counter at once, by either rule: up to the top, to 0, and from there whole rounds and what is left.
 -- Assumes nothing.
 use Rattle.std.proofs.Common.{◌≡◌, ℕ, zero, suc, ◌+◌, ◌-◌, ◌*◌, ◌/◌, ◌%◌, ◌^◌, ◌<◌, ◌≤◌, Bool, true, false, cond, not, ◌&&◌, eqb, ltb, leb, sym, refl, ap, ◌∙◌, add-zero, add-suc, mod-lt, suc-mul, suc-add, div-add-mod', zero-add, zero-mul, add-one, arith, le-ltb, lt-ltb, eq-eqb, ne_eqb, le-leb}
-use mathlib.Core.Bool.{beq, and-false}
+use mathlib.Core.Bool.{and-false}
 use native.Mathlib.Decide.{dec_le}
 use borrow.Author.Tests.{lt-leb}
 use Rattle.pwm.specs.declared.Registers.{Registers}
@@ -152,14 +152,6 @@ module _ (runs : Bool) (g : Registers) (e : mode g.cnfg ≡ true) where
 
 -- ---- what the code makes of s steps
 
--- from above MAX
-module _ (runs : Bool) (c max : ℕ) (h : max < c) where
-  pub above_on : runs ≡ true → 65536 - c ≡ until_zero runs c max
-  above_on z = rw (lt-ltb max c h, z)
-
-  pub above_off : runs ≡ false → 1 ≡ until_zero runs c max
-  above_off z = rw (lt-ltb max c h, z)
-
 -- there is always a step to 0
 some_steps : (runs : Bool) (c max : ℕ) → c < 65536 → 0 < until_zero runs c max
 some_steps runs c max h = by runs (dec_le c max) refl
@@ -168,10 +160,6 @@ some_steps runs c max h = by runs (dec_le c max) refl
     by b (yes k) z = rw (le-ltb max c k) (omega arith)
     by true (no k) z = rw (z, lt-ltb max c (omega arith)) (omega arith)
     by false (no k) z = rw (z, lt-ltb max c (omega arith)) (omega arith)
-
--- what the steps of MODE 1 ask
-pub is_mode_1 : (cnfg : ℕ) (b : Bool) → b ≡ mode cnfg → b ≡ true → mode cnfg ≡ true
-is_mode_1 cnfg b m z = sym m ∙ z
 
 module _ (runs : Bool) (q p : Pwm) (s r : ℕ) where
   abbrev g : Registers
@@ -206,43 +194,3 @@ module _ (runs : Bool) (q p : Pwm) (s r : ℕ) where
     over l h f =
         let all : s - room + room ≡ s = omega arith in
         f ∙ ap (moved q) (rw all at (sym (after runs g m w room (s - room) r (at_zero l))))
-
--- ---- the output
-
-module _ (q p : Pwm) (k r : ℕ) where
-  pub cmp_met : (i : Bool) → (ltb q.wave.counter q.registers.cmp && leb q.registers.cmp k) ≡ true → i ≡ inv q.registers.cnfg →
-      p ≡ moved q (at k r i) → p ≡ moved q (climbed q.registers k r q.wave)
-  cmp_met i t e f = rw (f, e, t)
-
-  pub cmp_unmet : (ltb q.wave.counter q.registers.cmp && leb q.registers.cmp k) ≡ false →
-      p ≡ moved q (at k r q.wave.output) → p ≡ moved q (climbed q.registers k r q.wave)
-  cmp_unmet t f = rw (f, t)
-
--- set at 0 and cleared at CMP, or with INV the other way
-agree : (i b : Bool) → beq i b ≡ cond b i (not i)
-agree true true = refl
-agree true false = refl
-agree false true = refl
-agree false false = refl
-
-pub agreed : (q p : Pwm) (k r : ℕ) (i : Bool) → i ≡ inv q.registers.cnfg →
-    p ≡ moved q (at k r (beq i (leb q.registers.cmp k))) → p ≡ moved q (wrapped q.registers k r)
-agreed q p k r i e f =
-    let b = leb q.registers.cmp k in
-    f ∙ ap (λ (o : Bool). moved q (at k r o)) (agree i b ∙ ap (λ (j : Bool). cond b j (not j)) e)
-
--- a way up ends at MAX, where it began, or at 65,535
-module _ (runs : Bool) (c max s room : ℕ) (u : room ≡ until_zero runs c max) (h : s < room) (k : c < 2 ^ 16) (l : max < 2 ^ 16) where
-  pub up_fits : c + s < 2 ^ 16
-  up_fits = by runs (dec_le c max) refl
-    where
-      by : (b : Bool) → Dec (c ≤ max) → runs ≡ b → c + s < 2 ^ 16
-      by b (yes n) z = omega (arith, rw (le-ltb max c n) at u)
-      by true (no n) z = omega (arith, rw (z, lt-ltb max c (omega arith)) at u)
-      by false (no n) z = omega (arith, rw (z, lt-ltb max c (omega arith)) at u)
-
-  pub up_fits32 : c + s < 2 ^ 32
-  up_fits32 = omega (arith, up_fits)
-
-pub round_fits : (m max : ℕ) → max < 2 ^ 16 → m % (max + 1) < 2 ^ 16
-round_fits m max h = omega (arith, mod-lt m {m = max + 1} (omega arith))

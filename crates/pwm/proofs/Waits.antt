@@ -1,6 +1,6 @@
 -- Many ticks at once, by either rule: the steps in them, and the ticks left over.
 -- Assumes nothing.
-use Rattle.std.proofs.Common.{◌≡◌, ℕ, zero, suc, ◌+◌, ◌-◌, ◌*◌, ◌/◌, ◌%◌, ◌^◌, ◌<◌, ◌≤◌, Bool, sym, refl, ap, ◌∙◌, mod-lt, suc-mul, div-lt_iff_lt-mul, suc-add, div-add-mod', zero-add, zero-mul, add-one, arith, pow_pos, pow_mono, le-ltb, lt-ltb, ne_eqb}
+use Rattle.std.proofs.Common.{◌≡◌, ℕ, zero, suc, ◌+◌, ◌-◌, ◌*◌, ◌/◌, ◌%◌, ◌^◌, ◌<◌, ◌≤◌, Bool, sym, refl, ap, ◌∙◌, mod-lt, suc-mul, suc-add, div-add-mod', zero-add, zero-mul, add-one, arith, pow_pos, pow_mono, le-ltb, lt-ltb, ne_eqb}
 use native.Mathlib.Decide.{dec_le}
 use Rattle.divider.specs.Divider.{divider_of}
 use Rattle.divider.proofs.Powers.{power}
@@ -83,17 +83,8 @@ module _ (q : Pwm) (place t : ℕ) (on : place ≤ 6) (e : (place + 1) % 2 ^ 16 
   few : 2 ^ place ≤ 2 ^ 6
   few = pow_mono on
 
-  pub steps_fit : m / 2 ^ place < 2 ^ 32
-  steps_fit = (div-lt_iff_lt-mul some).1 (omega (arith, two, some))
-
-  pub rest_left : m / 2 ^ place * 2 ^ place % 2 ^ 64 ≤ m
-  rest_left = omega (arith, whole)
-
   is_rest : m - m / 2 ^ place * 2 ^ place % 2 ^ 64 ≡ m % 2 ^ place
   is_rest = omega (arith, whole, two, few)
-
-  pub rest_fits : m - m / 2 ^ place * 2 ^ place % 2 ^ 64 < 2 ^ 8
-  rest_fits = omega (arith, is_rest, mod-lt m some, few)
 
   pub wait : (runs : Bool) (p : Pwm) → p ≡ moved q (steps_of runs (m / 2 ^ place) (m - m / 2 ^ place * 2 ^ place % 2 ^ 64) q.registers q.wave) → p ≡ on_ticks runs t q
   wait runs p f =

@@ -6,8 +6,8 @@ ghost use Rattle.pwm.specs.Pwm.{mode, on_ticks, on_write, register_of, fresh};
 ghost use Rattle.pwm.specs.How.{inv, at, moved, climbed, wrapped, steps_of, until_zero};
 ghost use Rattle.pwm.specs.Facts.{Short};
 
-use bits::number;
-use std::num::{wrapping_add_u16, wrapping_sub_u16};
+// CS 1 to 7 have the places 0 to 6 in the divider table.
+const LAST_PLACE: u16 = 6;
 
 #[derive(Clone, Copy)]
 pub struct Registers {
@@ -48,12 +48,10 @@ fn until_zero(runs: bool, counter: u16, max: u16) -> u32
     ensures { result ≡ until_zero runs counter max }
 {
     if max < counter {
-        if runs {
-            return 65536 - counter as u32;
-        }
-        return 1;
+        if runs { 65536 - counter as u32 } else { 1 }
+    } else {
+        (max - counter) as u32 + 1
     }
-    (max - counter) as u32 + 1
 }
 
 impl Pwm {
@@ -79,14 +77,13 @@ impl Pwm {
     fn moved(self, counter: u16, remainder: u8, output: bool) -> Pwm
         ensures { result ≡ moved self (at counter remainder output) }
     {
-        let g = self.registers;
         Pwm {
-            registers: g,
             wave: Wave {
-                counter: counter,
-                remainder: remainder,
-                output: output,
+                counter,
+                remainder,
+                output,
             },
+            ..self
         }
     }
 
@@ -114,9 +111,10 @@ impl Pwm {
     {
         let room = until_zero(runs, self.wave.counter, self.registers.max);
         if s < room {
-            return self.climbed((self.wave.counter as u32 + s) as u16, r);
+            self.climbed((self.wave.counter as u32 + s) as u16, r)
+        } else {
+            self.wrapped(((s - room) % (self.registers.max as u32 + 1)) as u16, r)
         }
-        self.wrapped(((s - room) % (self.registers.max as u32 + 1)) as u16, r)
     }
 
     // s steps, and the remainder that is left.
@@ -124,20 +122,20 @@ impl Pwm {
         ensures { result ≡ moved self (steps_of runs s r self.registers self.wave) }
     {
         if mode(self.registers.cnfg) {
-            return self.in_mode_1(runs, s, r);
+            self.in_mode_1(runs, s, r)
+        } else {
+            let end = self.wave.counter.wrapping_add((s % 65536) as u16);
+            self.moved(end, r, self.wave.output)
         }
-        let end = wrapping_add_u16(self.wave.counter, (s % 65536) as u16);
-        self.moved(end, r, self.wave.output)
     }
 
-    // A record of t ticks. CS 1 to 7 have the places 0 to 6 in the divider table; CS 0 wraps to none. N is two to the power of its place
-    // (divider/proofs/Powers.antt), so that a shift divides by it.
+    // A record of t ticks. CS 0 wraps to no place. N is two to the power of its place (divider/proofs/Powers.antt), so that a shift divides by it.
     pub fn ticks(self, runs: bool, t: u32) -> Pwm
         requires { Short self }
         ensures { result ≡ on_ticks runs t self }
     {
-        let place = wrapping_sub_u16(self.registers.cs, 1);
-        if 6 < place {
+        let place = self.registers.cs.wrapping_sub(1);
+        if LAST_PLACE < place {
             return self;
         }
         let m = self.wave.remainder as u64 + t as u64;
@@ -145,110 +143,59 @@ impl Pwm {
         self.steps(runs, s as u32, (m - (s << (place as u64))) as u8)
     }
 
-    fn write_cnfg(self, v: u16) -> Pwm
-        ensures { result ≡ on_write 0 v self }
-    {
-        Pwm {
-            registers: Registers {
-                max: self.registers.max,
-                cmp: self.registers.cmp,
-                cnfg: v,
-                cs: self.registers.cs,
-            },
-            wave: Wave {
-                counter: self.wave.counter,
-                remainder: self.wave.remainder,
-                output: self.wave.output & mode(v),
-            },
-        }
-    }
-
-    fn write_cs(self, v: u16) -> Pwm
-        ensures { result ≡ on_write 1 v self }
-    {
-        let remainder = 0;
-        Pwm {
-            registers: Registers {
-                max: self.registers.max,
-                cmp: self.registers.cmp,
-                cnfg: self.registers.cnfg,
-                cs: v,
-            },
-            wave: Wave {
-                counter: self.wave.counter,
-                remainder: remainder,
-                output: self.wave.output,
-            },
-        }
-    }
-
-    fn write_max(self, v: u16) -> Pwm
-        ensures { result ≡ on_write 2 v self }
-    {
-        let w = self.wave;
-        Pwm {
-            registers: Registers {
-                max: v,
-                cmp: self.registers.cmp,
-                cnfg: self.registers.cnfg,
-                cs: self.registers.cs,
-            },
-            wave: w,
-        }
-    }
-
-    fn write_cmp(self, v: u16) -> Pwm
-        ensures { result ≡ on_write 3 v self }
-    {
-        let w = self.wave;
-        Pwm {
-            registers: Registers {
-                max: self.registers.max,
-                cmp: v,
-                cnfg: self.registers.cnfg,
-                cs: self.registers.cs,
-            },
-            wave: w,
-        }
-    }
-
     // A write of CNFG, CS, MAX or CMP, which are 0 to 3.
     pub fn write(self, register: u64, v: u16) -> Pwm
         ensures { result ≡ on_write register v self }
     {
-        if register == 0 {
-            return self.write_cnfg(v);
+        match register {
+            0 => Pwm {
+                registers: Registers {
+                    cnfg: v,
+                    ..self.registers
+                },
+                wave: Wave {
+                    output: self.wave.output & mode(v),
+                    ..self.wave
+                },
+            },
+            1 => Pwm {
+                registers: Registers {
+                    cs: v,
+                    ..self.registers
+                },
+                wave: Wave {
+                    remainder: 0,
+                    ..self.wave
+                },
+            },
+            2 => Pwm {
+                registers: Registers {
+                    max: v,
+                    ..self.registers
+                },
+                ..self
+            },
+            3 => Pwm {
+                registers: Registers {
+                    cmp: v,
+                    ..self.registers
+                },
+                ..self
+            },
+            _ => self,
         }
-        if register == 1 {
-            return self.write_cs(v);
-        }
-        if register == 2 {
-            return self.write_max(v);
-        }
-        if register == 3 {
-            return self.write_cmp(v);
-        }
-        self
     }
 
     pub fn register(self, register: u64) -> u64
         ensures { result ≡ register_of register self }
     {
-        if register == 0 {
-            return self.registers.cnfg as u64;
+        match register {
+            0 => self.registers.cnfg as u64,
+            1 => self.registers.cs as u64,
+            2 => self.registers.max as u64,
+            3 => self.registers.cmp as u64,
+            4 => self.wave.counter as u64,
+            _ => self.wave.output as u64,
         }
-        if register == 1 {
-            return self.registers.cs as u64;
-        }
-        if register == 2 {
-            return self.registers.max as u64;
-        }
-        if register == 3 {
-            return self.registers.cmp as u64;
-        }
-        if register == 4 {
-            return self.wave.counter as u64;
-        }
-        number(self.wave.output) as u64
     }
 }
