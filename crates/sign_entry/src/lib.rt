@@ -63,7 +63,7 @@ pub fn go_on(out: &mut [u8], s: Stretch, last: usize, v: u8)
     ensures { out.new ≡ counted_at (32 * s.place) last (places s.pins v) out.old }
 {
     let at = 32 * s.place;
-    let tally = at + 16 + 4 * usize::from(encoder_pins::places(s.pins, v));
+    let tally = at + 16 + 4 * (encoder_pins::places(s.pins, v) as usize);
     let n = numbers::le32(out, tally);
     numbers::put32(out, tally, n + 1);
     numbers::put32(out, at + 8, last as u64);
