@@ -49,7 +49,7 @@ fn ascii(digit: u64) -> u8
     (48 + digit) as u8
 }
 
-// The digits of n.
+// The digits of n. By hand: what std's `write!` puts into a lent slice, and how much of it where there is no room, no contract of std says.
 pub fn put(out: &mut [u8], at: usize, n: u64) -> usize
     ensures { Put out.old at (digits_of n) out.new result }
 {
