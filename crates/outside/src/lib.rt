@@ -21,10 +21,7 @@ pub fn buffer() -> [u8; 4096]
 pub fn arg(rt: &impl Env, i: usize, buf: &mut [u8]) -> usize
     ensures { IsPrefixLen result buf.new }
 {
-    match rt.arg(i, buf) {
-        Ok(n) => n,
-        Err(_) => 0,
-    }
+    rt.arg(i, buf).unwrap_or(0)
 }
 
 fn is_missing(rt: &impl Env, i: usize) -> bool {
@@ -39,22 +36,16 @@ pub const MOST_WORDS: usize = 5;
 pub fn arg_count(rt: &impl Env) -> usize
     ensures { result ≤ MOST_WORDS }
 {
-    for i in 0..MOST_WORDS {
-        if is_missing(rt, i) {
-            return i;
-        }
-    }
-    MOST_WORDS
+    (0..MOST_WORDS)
+        .find(|&i| is_missing(rt, i))
+        .unwrap_or(MOST_WORDS)
 }
 
 // What a read gives: no byte at the end, nor where it fails.
 pub fn read_some<R: Read>(from: &mut R, buf: &mut [u8]) -> usize
     ensures { IsPrefixLen result buf.new }
 {
-    match from.read(buf) {
-        Ok(n) => n,
-        Err(_) => 0,
-    }
+    from.read(buf).unwrap_or(0)
 }
 
 // Reads until the buffer is full or a read gives no byte.
@@ -63,11 +54,10 @@ pub fn read_full<R: Read>(from: &mut R, buf: &mut [u8]) -> usize
 {
     let mut done = 0;
     while done < buf.len() {
-        let n = read_some(from, &mut buf[done..]);
-        if n == 0 {
-            break;
+        match read_some(from, &mut buf[done..]) {
+            0 => break,
+            n => done += n,
         }
-        done += n;
     }
     done
 }
@@ -92,11 +82,7 @@ pub fn read_input(rt: &impl Input, buf: &mut [u8]) -> usize
 pub fn read_file(rt: &impl Files, path: &[u8], buf: &mut [u8]) -> Option<usize>
     ensures { IfSome result (λ n. IsPrefixLen n buf.new) }
 {
-    let Ok(path) = str::from_utf8(path) else {
-        return None;
-    };
-    let Ok(mut file) = File::open(rt, path) else {
-        return None;
-    };
+    let path = str::from_utf8(path).ok()?;
+    let mut file = File::open(rt, path).ok()?;
     Some(read_full(&mut file, buf))
 }
