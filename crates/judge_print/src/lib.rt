@@ -5,19 +5,20 @@ ghost use Rattle.outside.specs.Counts.{IsPrefixLen};
 ghost use Rattle.decimal.specs.Put.{Put};
 ghost use Rattle.judge_print.specs.Verdicts.{verdict_text, VerdictSaid};
 
+use refused::Refusal;
 use std::io::Input;
 use std::rt::{Env, Files};
 use transcript::Verdict;
 
-fn say_verdict(text: &mut [u8], verdict: Verdict) -> usize
+fn say_verdict(text: &mut [u8], verdict: Result<Verdict, Refusal>) -> usize
     ensures { Put text.old 0 (verdict_text verdict) text.new result }
 {
     match verdict {
-        Verdict::Same => text::put_word(text, 0, b"same\n"),
-        Verdict::Negated => text::put_word(text, 0, b"negated\n"),
-        Verdict::Both => text::put_word(text, 0, b"both\n"),
-        Verdict::Different(i) => text_answers::different_text(text, i as u64),
-        Verdict::Refused(n) => text_answers::refused_text(text, n as u64),
+        Ok(Verdict::Same) => text::put_word(text, 0, b"same\n"),
+        Ok(Verdict::Negated) => text::put_word(text, 0, b"negated\n"),
+        Ok(Verdict::Both) => text::put_word(text, 0, b"both\n"),
+        Ok(Verdict::Different(i)) => text_answers::different_text(text, i as u64),
+        Err(refusal) => text_answers::refused_text(text, u64::from(refusal.number())),
     }
 }
 
