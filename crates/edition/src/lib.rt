@@ -22,9 +22,10 @@ impl Edition {
     pub fn known(number: u64) -> bool
         ensures { result ≡ known number }
     {
-        (1 <= number) & (number <= 4)
+        matches!(number, 1..=4)
     }
 
+    // Of any number, and no Option: a trailer and a state hold the number, and a replay that goes on from them does not ask `known` again.
     pub fn of(number: u64) -> Edition
         ensures { result ≡ edition_of number }
     {
