@@ -12,10 +12,10 @@ use Rattle.vcd.specs.declared.Step.{Step}
 use Rattle.vcd.specs.declared.Step.TheVariants.{Wait, Pins}
 use Rattle.vcd.specs.declared.Line.{Line}
 use Rattle.vcd.specs.declared.Line.TheVariants.{Fixed, Var, Unknown, Time, Change, Other}
-use Rattle.vcd.specs.declared.Reader.{Reader}
+use Rattle.vcd.specs.How.{Position}
 use Rattle.vcd.specs.Dump.{changes_of, body_from, Good}
 use Rattle.vcd.specs.How.{turn_of, time_turn, whole, unchanged}
-use Rattle.vcd.proofs.Print.{GoodLines}
+use Rattle.vcd.proofs.Print.{place_small, GoodLines}
 use Rattle.vcd.proofs.Starts.{There, there_unset}
 use Rattle.vcd.proofs.Heart.{Run, run, at, first_a, changes, some_change}
 use Rattle.vcd.proofs.Parse.{Accepts, fixed_taken, var_taken, unknown_taken, time_taken, change_taken}
@@ -67,7 +67,7 @@ record Pair (e : ℕ) (ls : List Line) : Type 0 where
 then_b : (e now : ℕ) (pins ch : List ℕ) (ls : List Line) → GoodLines ls → Accepts (at 8 (2 * e + 1) now pins ch) ls → Pair e ls
 unfolding turn_of
 then_b e now pins ch [] g h = absurd (omega (arith, eqb-true (2 * e + 1) 0 h))
-then_b e now pins ch (Fixed k ∷ ls) g h = absurd (omega (arith, g.0, (fixed_taken 8 (2 * e + 1) now pins ch ls k h).0))
+then_b e now pins ch (Fixed k ∷ ls) g h = absurd (omega (arith, place_small k, (fixed_taken 8 (2 * e + 1) now pins ch ls k h).0))
 then_b e now pins ch (Var w ∷ ls) g h = absurd (omega (arith, (var_taken 8 (2 * e + 1) now pins ch ls w h).0))
 then_b e now pins ch (Unknown w ∷ ls) g h = absurd (omega (arith, (unknown_taken 8 (2 * e + 1) now pins ch ls w h).0))
 then_b e now pins ch (Time t ∷ ls) g h = absurd (omega (arith, (time_taken 8 (2 * e + 1) now pins ch ls t h).1))
@@ -108,7 +108,7 @@ module _ (ph now e : ℕ) (pins ch : List ℕ) (in_time : eqb ph 7 || eqb ph 8 �
       by : (p : ℕ) → get_or pins e 0 ≡ p → (t : Bool) → eqb p 4 ≡ t → cond t true (ltb p 4 && not (eqb (p % 2) a)) ≡ true → Took pins (Change (2 * e) a ∷ ls)
       by p is true q c =
           let f = eqb-true p 4 q in
-          let b = then_b e now (set pins e (4 + a)) (set ch e 1) ls good (subst (λ (r : Reader). Accepts r ls) (first_a ph now e a 0 pins ch in_time h (omega arith) (omega arith) p is f) acc) in
+          let b = then_b e now (set pins e (4 + a)) (set ch e 1) ls good (subst (λ (r : Position). Accepts r ls) (first_a ph now e a 0 pins ch in_time h (omega arith) (omega arith) p is f) acc) in
           first_took e a b.b pins ls b.rest row h b.small (is ∙ f) b.lines b.good
       by p is false q c =
           let s = both_true (ltb p 4) (not (eqb (p % 2) a)) c in
@@ -187,7 +187,7 @@ pins_lines told now e v pins ls rest steps low small n h k =
     either true = refl
     either false = refl
 
-pub by_run : (r q : Reader) (ls ms : List Line) → run r ls ≡ run q ms → Accepts r ls → Accepts q ms
+pub by_run : (r q : Position) (ls ms : List Line) → run r ls ≡ run q ms → Accepts r ls → Accepts q ms
 by_run r q ls ms e h = ap (λ (x : Run). whole x.ends) (sym e) ∙ h
 
 -- a step's changes, and what follows them
@@ -236,7 +236,7 @@ Going now ls = (pins ch : List ℕ) (rest : List Line) → length pins ≡ 20 �
 
 timed_body : (t : ℕ) (pins : List ℕ) (ls : List Line) → length pins ≡ 20 → GoodLines ls → Going t ls → Accepts (at 7 0 t pins unchanged) ls → Body false t pins (Time t ∷ ls)
 timed_body t pins [] l g ih h = absurd (false≢true h)
-timed_body t pins (Fixed k ∷ ls) l g ih h = absurd (omega (arith, g.0, (fixed_taken 7 0 t pins unchanged ls k h).0))
+timed_body t pins (Fixed k ∷ ls) l g ih h = absurd (omega (arith, place_small k, (fixed_taken 7 0 t pins unchanged ls k h).0))
 timed_body t pins (Var w ∷ ls) l g ih h = absurd (omega (arith, (var_taken 7 0 t pins unchanged ls w h).0))
 timed_body t pins (Unknown w ∷ ls) l g ih h = absurd (omega (arith, (unknown_taken 7 0 t pins unchanged ls w h).0))
 timed_body t pins (Time u ∷ ls) l g ih h = absurd (false≢true (time_taken 7 0 t pins unchanged ls u h).0)
@@ -248,7 +248,7 @@ unfolding turn_of
 on_time ph now t pins ch ls h =
     let q = time_taken ph 0 now pins ch ls t h in
     let e : time_turn (at ph 0 now pins ch) t ≡ at 7 0 t pins unchanged = rw (q.0, q.2) in
-    subst (λ (r : Reader). Accepts r ls) e h
+    subst (λ (r : Position). Accepts r ls) e h
 
 -- n is how many lines there are at most
 going : (n : ℕ) (ls : List Line) (now : ℕ) (pins ch : List ℕ) → length ls ≤ n → now % 25 ≡ 0 → now < 2 ^ 64 → length pins ≡ 20 → GoodLines ls → Accepts (at 8 0 now pins ch) ls
@@ -257,7 +257,7 @@ unfolding body_from
 going zero [] now pins ch m d f l g h = record { steps = []; good = f; there = tt; lines = refl }
 going zero (x ∷ ls) now pins ch m d f l g h = absurd (omega arith)
 going (suc n) [] now pins ch m d f l g h = record { steps = []; good = f; there = tt; lines = refl }
-going (suc n) (Fixed k ∷ ls) now pins ch m d f l g h = absurd (omega (arith, g.0, (fixed_taken 8 0 now pins ch ls k h).0))
+going (suc n) (Fixed k ∷ ls) now pins ch m d f l g h = absurd (omega (arith, place_small k, (fixed_taken 8 0 now pins ch ls k h).0))
 going (suc n) (Var w ∷ ls) now pins ch m d f l g h = absurd (omega (arith, (var_taken 8 0 now pins ch ls w h).0))
 going (suc n) (Unknown w ∷ ls) now pins ch m d f l g h = absurd (omega (arith, (unknown_taken 8 0 now pins ch ls w h).0))
 going (suc n) (Time t ∷ ls) now pins ch m d f l g h =
@@ -272,7 +272,7 @@ going (suc n) (Other ∷ ls) now pins ch m d f l g h = absurd g.0
 pub first : (ls : List Line) (pins : List ℕ) → length pins ≡ 20 → GoodLines ls → Accepts (at 6 0 0 pins unchanged) ls → Body false 0 pins ls
 unfolding body_from
 first [] pins l g h = record { steps = []; good = omega arith; there = tt; lines = refl }
-first (Fixed k ∷ ls) pins l g h = absurd (omega (arith, g.0, (fixed_taken 6 0 0 pins unchanged ls k h).0))
+first (Fixed k ∷ ls) pins l g h = absurd (omega (arith, place_small k, (fixed_taken 6 0 0 pins unchanged ls k h).0))
 first (Var w ∷ ls) pins l g h = absurd (omega (arith, (var_taken 6 0 0 pins unchanged ls w h).0))
 first (Unknown w ∷ ls) pins l g h = absurd (omega (arith, (unknown_taken 6 0 0 pins unchanged ls w h).0))
 first (Time t ∷ ls) pins l g h =

@@ -11,6 +11,7 @@ use Rattle.decimal.specs.Digits.{digits_of}
 use Rattle.decimal.proofs.Back.{few_digits}
 use Rattle.vcd.specs.declared.Step.{Step}
 use Rattle.vcd.specs.declared.Step.TheVariants.{Wait, Pins}
+use Rattle.vcd.specs.declared.Mark.TheVariants.{Timescale, Scope, Upscope, EndDefinitions, DumpVars, End}
 use Rattle.vcd.specs.declared.Line.{Line}
 use Rattle.vcd.specs.declared.Line.TheVariants.{Fixed, Var, Unknown, Time, Change}
 use Rattle.vcd.specs.Lines.{fixed_lines, var_of, print_of, text_of}
@@ -80,14 +81,14 @@ module _ (pins unknown : List ℕ) (l : length pins ≡ 20) (m : length unknown 
     omega arith,
     (
       omega arith,
-      good_append (wires_from Var 0 pins) (Fixed 2 ∷ Fixed 3 ∷ Fixed 4 ∷ (wires_from Unknown 0 unknown ++ Fixed 5 ∷ [])) (good_wires Var 36 (λ w h. h) var_long pins 0 (omega arith))
-          (omega arith, (omega arith, (omega arith, good_append (wires_from Unknown 0 unknown) (Fixed 5 ∷ []) (good_wires Unknown 3 (λ w h. h) unknown_long unknown 0 (omega arith)) (omega arith, tt)))),
+      good_append (wires_from Var 0 pins) (Fixed Upscope ∷ Fixed EndDefinitions ∷ Fixed DumpVars ∷ (wires_from Unknown 0 unknown ++ Fixed End ∷ [])) (good_wires Var 36 (λ w h. h) var_long pins 0 (omega arith))
+          (omega arith, (omega arith, (omega arith, good_append (wires_from Unknown 0 unknown) (Fixed End ∷ []) (good_wires Unknown 3 (λ w h. h) unknown_long unknown 0 (omega arith)) (omega arith, tt)))),
     ),
   )
 
-  fixed_long : (ls ms : List Line) → length (text_of (Fixed 0 ∷ Fixed 1 ∷ (ls ++ Fixed 2 ∷ Fixed 3 ∷ Fixed 4 ∷ (ms ++ Fixed 5 ∷ [])))) ≡ 95 + length (text_of ls) + length (text_of ms)
+  fixed_long : (ls ms : List Line) → length (text_of (Fixed Timescale ∷ Fixed Scope ∷ (ls ++ Fixed Upscope ∷ Fixed EndDefinitions ∷ Fixed DumpVars ∷ (ms ++ Fixed End ∷ [])))) ≡ 95 + length (text_of ls) + length (text_of ms)
   unfolding text_of print_of fixed_lines
-  fixed_long ls ms = omega (arith, text_long ls (Fixed 2 ∷ Fixed 3 ∷ Fixed 4 ∷ (ms ++ Fixed 5 ∷ [])), text_long ms (Fixed 5 ∷ []))
+  fixed_long ls ms = omega (arith, text_long ls (Fixed Upscope ∷ Fixed EndDefinitions ∷ Fixed DumpVars ∷ (ms ++ Fixed End ∷ [])), text_long ms (Fixed End ∷ []))
 
   short_header : length (text_of (header_of pins unknown)) ≤ 1655
   short_header = omega (arith, fixed_long (wires_from Var 0 pins) (wires_from Unknown 0 unknown), short_wires Var 36 (λ w h. h) var_long pins 0, short_wires Unknown 3 (λ w h. h) unknown_long unknown 0)

@@ -12,12 +12,14 @@ use lib.ListN.{length, get_or, set, replicate, length-append, length-replicate}
 use borrow.Author.Tests.{eqb-true, eq-eqb, ne_eqb, leb-true}
 use Rattle.laws.proofs.Truth.{both_true}
 use Rattle.vcd.specs.declared.Step.{Step}
+use Rattle.vcd.specs.declared.Mark.{Mark}
+use Rattle.vcd.specs.declared.Mark.TheVariants.{Timescale, Scope, Upscope, EndDefinitions, DumpVars, End}
 use Rattle.vcd.specs.declared.Line.{Line}
 use Rattle.vcd.specs.declared.Line.TheVariants.{Fixed, Var, Unknown, Time, Change, Other}
-use Rattle.vcd.specs.declared.Reader.{Reader}
+use Rattle.vcd.specs.How.{Position}
 use Rattle.vcd.specs.Dump.{wires_from, header_of, body_from, Good}
 use Rattle.vcd.specs.How.{follows, turn_of, var_turn, unknown_turn, opening, unchanged}
-use Rattle.vcd.proofs.Print.{GoodLines}
+use Rattle.vcd.proofs.Print.{GoodLines, mark, mark_place}
 use Rattle.vcd.proofs.Starts.{Fresh, Under, There}
 use Rattle.vcd.proofs.Heart.{at, vars, unknowns}
 use Rattle.vcd.proofs.Parse.{Accepts, fixed_taken, var_taken, unknown_taken, time_taken, change_taken}
@@ -52,9 +54,9 @@ Declared all e = get_or all e 0 ≡ 4
 abbrev line_at : ℕ → ℕ → Line
 line_at k w = cond (eqb k 2) (Var w) (Unknown w)
 
-record End (k a : ℕ) (ls : List Line) : Type 0 where
+record Closing (k a : ℕ) (ls : List Line) : Type 0 where
   rest : List Line
-  lines : ls ≡ Fixed k ∷ rest
+  lines : ls ≡ Fixed (mark k) ∷ rest
   even : a % 2 ≡ 0
   good : GoodLines rest
 
@@ -88,7 +90,7 @@ module _ (a : ℕ) (pins : List ℕ) where
         after = set pins (w / 2) 4;
         stays = λ k. absurd (omega arith);
         good = g.1;
-        next = subst (λ (r : Reader). Accepts r ls) e h;
+        next = subst (λ (r : Position). Accepts r ls) e h;
       }
 
   unknown_line : (w : ℕ) (ls : List Line) → GoodLines (Unknown w ∷ ls) → Accepts (at 5 a 0 pins unchanged) (Unknown w ∷ ls) → Wire 5 a pins (Unknown w ∷ ls)
@@ -107,14 +109,14 @@ module _ (a : ℕ) (pins : List ℕ) where
         after = pins;
         stays = λ _. refl;
         good = g.1;
-        next = subst (λ (r : Reader). Accepts r ls) e h;
+        next = subst (λ (r : Position). Accepts r ls) e h;
       }
 
-  head_line : (k : ℕ) (ls : List Line) → k < 6 → GoodLines ls → Accepts (at k a 0 pins unchanged) ls → End k a ls ⊎ Wire k a pins ls
+  head_line : (k : ℕ) (ls : List Line) → k < 6 → GoodLines ls → Accepts (at k a 0 pins unchanged) ls → Closing k a ls ⊎ Wire k a pins ls
   head_line k [] s g h = absurd (false≢true (rw (ne_eqb k 6 (omega arith), ne_eqb k 8 (omega arith)) at h))
   head_line k (Fixed j ∷ ls) s g h =
       let q = fixed_taken k a 0 pins unchanged ls j h in
-      inl (record { rest = ls; lines = ap (λ (i : ℕ). Fixed i ∷ ls) (sym q.0); even = q.1; good = g.1 })
+      inl (record { rest = ls; lines = ap (λ (m : Mark). Fixed m ∷ ls) (sym (ap mark q.0 ∙ mark_place j)); even = q.1; good = g.1 })
   head_line k (Var w ∷ ls) s g h = let e = (var_taken k a 0 pins unchanged ls w h).0 in rw e (inr (var_line w ls g (rw e at h)))
   head_line k (Unknown w ∷ ls) s g h = let e = (unknown_taken k a 0 pins unchanged ls w h).0 in rw e (inr (unknown_line w ls g (rw e at h)))
   head_line k (Time t ∷ ls) s g h = absurd (false≢true (rw (ne_eqb k 6 (omega arith), ne_eqb k 8 (omega arith)) at (time_taken k a 0 pins unchanged ls t h).0))
@@ -122,14 +124,14 @@ module _ (a : ℕ) (pins : List ℕ) where
   head_line k (Other ∷ ls) s g h = absurd g.0
 
 -- where no wire can come
-fixed_next : (k : ℕ) (pins : List ℕ) (ls : List Line) → k < 6 → (k ≡ 2 → ⊥) → (k ≡ 5 → ⊥) → GoodLines ls → Accepts (at k 0 0 pins unchanged) ls → End k 0 ls
+fixed_next : (k : ℕ) (pins : List ℕ) (ls : List Line) → k < 6 → (k ≡ 2 → ⊥) → (k ≡ 5 → ⊥) → GoodLines ls → Accepts (at k 0 0 pins unchanged) ls → Closing k 0 ls
 fixed_next k pins ls s n m g h = by (head_line 0 pins k ls s g h)
   where
     none : (k ≡ 2) ⊎ (k ≡ 5) → ⊥
     none (inl e) = n e
     none (inr e) = m e
 
-    by : End k 0 ls ⊎ Wire k 0 pins ls → End k 0 ls
+    by : Closing k 0 ls ⊎ Wire k 0 pins ls → Closing k 0 ls
     by (inl x) = x
     by (inr x) = absurd (none x.wired)
 
@@ -158,7 +160,7 @@ record Two (k a : ℕ) (pins : List ℕ) (ls : List Line) : Type 0 where
 
 module _ (k a : ℕ) (pins : List ℕ) (ls : List Line) (small : k < 6) (even : a % 2 ≡ 0) where
   -- after its A just its B
-  two : (x : Wire k a pins ls) → End k (x.w + 1) x.rest ⊎ Wire k (x.w + 1) x.after x.rest → Two k a pins ls
+  two : (x : Wire k a pins ls) → Closing k (x.w + 1) x.rest ⊎ Wire k (x.w + 1) x.after x.rest → Two k a pins ls
   two x (inl y) = absurd (omega (arith, y.even, follows_even a x.w even x.comes))
   two x (inr y) =
       let f = follows_even a x.w even x.comes in
@@ -178,10 +180,10 @@ module _ (k a : ℕ) (pins : List ℕ) (ls : List Line) (small : k < 6) (even : 
         next = subst (λ (v : ℕ). Accepts (at k v 0 y.after unchanged) y.rest) i y.next;
       }
 
-  step : GoodLines ls → Accepts (at k a 0 pins unchanged) ls → End k a ls ⊎ Two k a pins ls
+  step : GoodLines ls → Accepts (at k a 0 pins unchanged) ls → Closing k a ls ⊎ Two k a pins ls
   step g h = by (head_line a pins k ls small g h)
     where
-      by : End k a ls ⊎ Wire k a pins ls → End k a ls ⊎ Two k a pins ls
+      by : Closing k a ls ⊎ Wire k a pins ls → Closing k a ls ⊎ Two k a pins ls
       by (inl x) = inl x
       by (inr x) = inr (two x (head_line (x.w + 1) x.after k x.rest small x.good x.next))
 
@@ -193,11 +195,11 @@ record Wired (k a : ℕ) (all : List ℕ) (ls : List Line) : Type 0 where
   long : a / 2 + length xs ≡ 20
   fresh : Fresh xs
   fine : k ≡ 5 → Fine (Declared all) (a / 2) xs
-  lines : ls ≡ wires_from (line_at k) (a / 2) xs ++ Fixed k ∷ rest
+  lines : ls ≡ wires_from (line_at k) (a / 2) xs ++ Fixed (mark k) ∷ rest
   good : GoodLines rest
 
 module _ (k a : ℕ) (all : List ℕ) (ls : List Line) where
-  none_wired : End k a ls → a ≤ 40 → Wired k a all ls
+  none_wired : Closing k a ls → a ≤ 40 → Wired k a all ls
   unfolding wires_from
   none_wired x most = let n = 20 - a / 2 in record {
     xs = replicate n 5 ++ [];
@@ -210,7 +212,7 @@ module _ (k a : ℕ) (all : List ℕ) (ls : List Line) where
   }
 
   two_lines : (w : ℕ) (rest ms : List Line) (ys : List ℕ) → a % 2 ≡ 0 → w % 2 ≡ 0 → a ≤ w → ls ≡ line_at k w ∷ line_at k (w + 1) ∷ rest
-      → rest ≡ wires_from (line_at k) ((w + 2) / 2) ys ++ Fixed k ∷ ms → ls ≡ wires_from (line_at k) (a / 2) (replicate ((w - a) / 2) 5 ++ 4 ∷ ys) ++ Fixed k ∷ ms
+      → rest ≡ wires_from (line_at k) ((w + 2) / 2) ys ++ Fixed (mark k) ∷ ms → ls ≡ wires_from (line_at k) (a / 2) (replicate ((w - a) / 2) 5 ++ 4 ∷ ys) ++ Fixed (mark k) ∷ ms
   unfolding wires_from
   two_lines w rest ms ys even e h is q =
       let i : a / 2 + (w - a) / 2 ≡ w / 2 = omega arith in
@@ -242,7 +244,7 @@ collect zero k a all pins [] m s even most q g h = absurd (false≢true (rw (ne_
 collect zero k a all pins (l ∷ ls) m s even most q g h = absurd (omega arith)
 collect (suc n) k a all pins ls m s even most q g h = by (step k a pins ls s even g h) (λ a pins ls. collect n k a all pins ls)
   where
-    by : End k a ls ⊎ Two k a pins ls
+    by : Closing k a ls ⊎ Two k a pins ls
         → ((a : ℕ) (pins : List ℕ) (ls : List Line) → length ls ≤ n → k < 6 → a % 2 ≡ 0 → a ≤ 40 → (k ≡ 5 → pins ≡ all) → GoodLines ls → Accepts (at k a 0 pins unchanged) ls → Wired k a all ls)
         → Wired k a all ls
     by (inl x) ih = none_wired k a all ls x most
@@ -261,11 +263,11 @@ under_fine (x ∷ xs) (y ∷ ys) p e l h = (
 -- ---- the whole
 
 pub regroup : (pins unknown : List ℕ) (ls : List Line)
-    → header_of pins unknown ++ ls ≡ Fixed 0 ∷ Fixed 1 ∷ (wires_from Var 0 pins ++ Fixed 2 ∷ Fixed 3 ∷ Fixed 4 ∷ (wires_from Unknown 0 unknown ++ Fixed 5 ∷ ls))
+    → header_of pins unknown ++ ls ≡ Fixed Timescale ∷ Fixed Scope ∷ (wires_from Var 0 pins ++ Fixed Upscope ∷ Fixed EndDefinitions ∷ Fixed DumpVars ∷ (wires_from Unknown 0 unknown ++ Fixed End ∷ ls))
 regroup pins unknown ls =
-    ap (λ (ms : List Line). Fixed 0 ∷ Fixed 1 ∷ ms)
-    (append_assoc (wires_from Var 0 pins) (Fixed 2 ∷ Fixed 3 ∷ Fixed 4 ∷ (wires_from Unknown 0 unknown ++ Fixed 5 ∷ [])) ls
-    ∙ ap (λ (ms : List Line). wires_from Var 0 pins ++ Fixed 2 ∷ Fixed 3 ∷ Fixed 4 ∷ ms) (append_assoc (wires_from Unknown 0 unknown) (Fixed 5 ∷ []) ls))
+    ap (λ (ms : List Line). Fixed Timescale ∷ Fixed Scope ∷ ms)
+    (append_assoc (wires_from Var 0 pins) (Fixed Upscope ∷ Fixed EndDefinitions ∷ Fixed DumpVars ∷ (wires_from Unknown 0 unknown ++ Fixed End ∷ [])) ls
+    ∙ ap (λ (ms : List Line). wires_from Var 0 pins ++ Fixed Upscope ∷ Fixed EndDefinitions ∷ Fixed DumpVars ∷ ms) (append_assoc (wires_from Unknown 0 unknown) (Fixed End ∷ []) ls))
 
 -- some lines, and then the `x` lines and the body
 pub record Tail (pins : List ℕ) (head : List Line → List Line) (ls : List Line) : Type 0 where
@@ -276,7 +278,7 @@ pub record Tail (pins : List ℕ) (head : List Line → List Line) (ls : List Li
   pub steps : List Step
   pub good : Good (2 ^ 64) 0 steps
   pub there : There pins steps
-  pub lines : ls ≡ head (wires_from Unknown 0 unknown ++ Fixed 5 ∷ body_from false 0 pins steps)
+  pub lines : ls ≡ head (wires_from Unknown 0 unknown ++ Fixed End ∷ body_from false 0 pins steps)
 
 before : (pins : List ℕ) (f head : List Line → List Line) (ls rest : List Line) → ls ≡ f rest → Tail pins head rest → Tail pins (λ x. f (head x)) ls
 before pins f head ls rest e t = record {
@@ -299,7 +301,7 @@ module _ (pins : List ℕ) (long : length pins ≡ 20) where
 
       passed : Accepts (at 6 0 0 pins unchanged) u.rest
       passed =
-          by_run (at 5 0 0 pins unchanged) (at 6 0 0 pins unchanged) (wires_from Unknown 0 u.xs ++ Fixed 5 ∷ u.rest) u.rest
+          by_run (at 5 0 0 pins unchanged) (at 6 0 0 pins unchanged) (wires_from Unknown 0 u.xs ++ Fixed End ∷ u.rest) u.rest
           (unknowns u.xs pins [] 0 0 u.rest refl refl (omega arith) (omega (arith, u.long)) under) (subst (Accepts (at 5 0 0 pins unchanged)) u.lines h)
 
       by : Body false 0 pins u.rest → Tail pins (λ x. x) ls
@@ -311,21 +313,21 @@ module _ (pins : List ℕ) (long : length pins ≡ 20) where
         steps = b.steps;
         good = b.good;
         there = b.there;
-        lines = u.lines ∙ ap (λ (ms : List Line). wires_from Unknown 0 u.xs ++ Fixed 5 ∷ ms) b.lines;
+        lines = u.lines ∙ ap (λ (ms : List Line). wires_from Unknown 0 u.xs ++ Fixed End ∷ ms) b.lines;
       }
 
   from_5 : (ls : List Line) → GoodLines ls → Accepts (at 5 0 0 pins unchanged) ls → Tail pins (λ x. x) ls
   from_5 ls g h = from_unknown ls h (collect (length ls) 5 0 pins pins ls (le_refl (length ls)) (omega arith) refl (omega arith) (λ _. refl) g h)
 
-  from_4 : (ls : List Line) → Accepts (at 4 0 0 pins unchanged) ls → End 4 0 ls → Tail pins (λ x. Fixed 4 ∷ x) ls
+  from_4 : (ls : List Line) → Accepts (at 4 0 0 pins unchanged) ls → Closing 4 0 ls → Tail pins (λ x. Fixed DumpVars ∷ x) ls
   unfolding turn_of
-  from_4 ls h e = before pins (λ x. Fixed 4 ∷ x) (λ x. x) ls e.rest e.lines (from_5 e.rest e.good (subst (Accepts (at 4 0 0 pins unchanged)) e.lines h))
+  from_4 ls h e = before pins (λ x. Fixed DumpVars ∷ x) (λ x. x) ls e.rest e.lines (from_5 e.rest e.good (subst (Accepts (at 4 0 0 pins unchanged)) e.lines h))
 
-  from_3 : (ls : List Line) → Accepts (at 3 0 0 pins unchanged) ls → End 3 0 ls → Tail pins (λ x. Fixed 3 ∷ Fixed 4 ∷ x) ls
+  from_3 : (ls : List Line) → Accepts (at 3 0 0 pins unchanged) ls → Closing 3 0 ls → Tail pins (λ x. Fixed EndDefinitions ∷ Fixed DumpVars ∷ x) ls
   unfolding turn_of
-  from_3 ls h e = before pins (λ x. Fixed 3 ∷ x) (λ x. Fixed 4 ∷ x) ls e.rest e.lines (on (subst (Accepts (at 3 0 0 pins unchanged)) e.lines h))
+  from_3 ls h e = before pins (λ x. Fixed EndDefinitions ∷ x) (λ x. Fixed DumpVars ∷ x) ls e.rest e.lines (on (subst (Accepts (at 3 0 0 pins unchanged)) e.lines h))
     where
-      on : Accepts (at 4 0 0 pins unchanged) e.rest → Tail pins (λ x. Fixed 4 ∷ x) e.rest
+      on : Accepts (at 4 0 0 pins unchanged) e.rest → Tail pins (λ x. Fixed DumpVars ∷ x) e.rest
       on a = from_4 e.rest a (fixed_next 4 pins e.rest (omega arith) (λ e. omega arith) (λ e. omega arith) e.good a)
 
 -- declared encoders, and then the rest
@@ -333,14 +335,14 @@ pub record Dump (head : List Line → List Line) (ls : List Line) : Type 0 where
   pub pins : List ℕ
   pub long : length pins ≡ 20
   pub fresh : Fresh pins
-  pub tail : Tail pins (λ x. head (wires_from Var 0 pins ++ Fixed 2 ∷ Fixed 3 ∷ Fixed 4 ∷ x)) ls
+  pub tail : Tail pins (λ x. head (wires_from Var 0 pins ++ Fixed Upscope ∷ Fixed EndDefinitions ∷ Fixed DumpVars ∷ x)) ls
 
 under_head : (f head : List Line → List Line) (ls rest : List Line) → ls ≡ f rest → Dump head rest → Dump (λ x. f (head x)) ls
 under_head f head ls rest e d = record {
   pins = d.pins;
   long = d.long;
   fresh = d.fresh;
-  tail = before d.pins f (λ x. head (wires_from Var 0 d.pins ++ Fixed 2 ∷ Fixed 3 ∷ Fixed 4 ∷ x)) ls rest e d.tail;
+  tail = before d.pins f (λ x. head (wires_from Var 0 d.pins ++ Fixed Upscope ∷ Fixed EndDefinitions ∷ Fixed DumpVars ∷ x)) ls rest e d.tail;
 }
 
 none : List ℕ
@@ -352,7 +354,7 @@ from_vars ls h v = record {
   pins = v.xs;
   long = long;
   fresh = v.fresh;
-  tail = before v.xs (λ x. wires_from Var 0 v.xs ++ Fixed 2 ∷ x) (λ x. Fixed 3 ∷ Fixed 4 ∷ x) ls v.rest v.lines (on passed);
+  tail = before v.xs (λ x. wires_from Var 0 v.xs ++ Fixed Upscope ∷ x) (λ x. Fixed EndDefinitions ∷ Fixed DumpVars ∷ x) ls v.rest v.lines (on passed);
 }
   where
     long : length v.xs ≡ 20
@@ -360,29 +362,29 @@ from_vars ls h v = record {
 
     passed : Accepts (at 3 0 0 v.xs unchanged) v.rest
     passed =
-        by_run (at 2 0 0 none unchanged) (at 3 0 0 v.xs unchanged) (wires_from Var 0 v.xs ++ Fixed 2 ∷ v.rest) v.rest
+        by_run (at 2 0 0 none unchanged) (at 3 0 0 v.xs unchanged) (wires_from Var 0 v.xs ++ Fixed Upscope ∷ v.rest) v.rest
         (rw long at (vars v.xs [] 0 0 v.rest refl refl (omega arith) v.fresh)) (subst (Accepts (at 2 0 0 none unchanged)) v.lines h)
 
-    on : Accepts (at 3 0 0 v.xs unchanged) v.rest → Tail v.xs (λ x. Fixed 3 ∷ Fixed 4 ∷ x) v.rest
+    on : Accepts (at 3 0 0 v.xs unchanged) v.rest → Tail v.xs (λ x. Fixed EndDefinitions ∷ Fixed DumpVars ∷ x) v.rest
     on a = from_3 v.xs long v.rest a (fixed_next 3 v.xs v.rest (omega arith) (λ e. omega arith) (λ e. omega arith) v.good a)
 
-from_1 : (ls : List Line) → Accepts (at 1 0 0 none unchanged) ls → End 1 0 ls → Dump (λ x. Fixed 1 ∷ x) ls
+from_1 : (ls : List Line) → Accepts (at 1 0 0 none unchanged) ls → Closing 1 0 ls → Dump (λ x. Fixed Scope ∷ x) ls
 unfolding turn_of none
-from_1 ls h e = under_head (λ x. Fixed 1 ∷ x) (λ x. x) ls e.rest e.lines (on (subst (Accepts (at 1 0 0 none unchanged)) e.lines h))
+from_1 ls h e = under_head (λ x. Fixed Scope ∷ x) (λ x. x) ls e.rest e.lines (on (subst (Accepts (at 1 0 0 none unchanged)) e.lines h))
   where
     on : Accepts (at 2 0 0 none unchanged) e.rest → Dump (λ x. x) e.rest
     on a = from_vars e.rest a (collect (length e.rest) 2 0 none none e.rest (le_refl (length e.rest)) (omega arith) refl (omega arith) (λ _. refl) e.good a)
 
-from_0 : (ls : List Line) → Accepts opening ls → End 0 0 ls → Dump (λ x. Fixed 0 ∷ Fixed 1 ∷ x) ls
+from_0 : (ls : List Line) → Accepts opening ls → Closing 0 0 ls → Dump (λ x. Fixed Timescale ∷ Fixed Scope ∷ x) ls
 unfolding turn_of none
-from_0 ls h e = under_head (λ x. Fixed 0 ∷ x) (λ x. Fixed 1 ∷ x) ls e.rest e.lines (on (subst (Accepts opening) e.lines h))
+from_0 ls h e = under_head (λ x. Fixed Timescale ∷ x) (λ x. Fixed Scope ∷ x) ls e.rest e.lines (on (subst (Accepts opening) e.lines h))
   where
-    on : Accepts (at 1 0 0 none unchanged) e.rest → Dump (λ x. Fixed 1 ∷ x) e.rest
+    on : Accepts (at 1 0 0 none unchanged) e.rest → Dump (λ x. Fixed Scope ∷ x) e.rest
     on a = from_1 e.rest a (fixed_next 1 none e.rest (omega arith) (λ e. omega arith) (λ e. omega arith) e.good a)
 
-pub dump_of_lem : (ls : List Line) → GoodLines ls → Accepts opening ls → Dump (λ x. Fixed 0 ∷ Fixed 1 ∷ x) ls
+pub dump_of_lem : (ls : List Line) → GoodLines ls → Accepts opening ls → Dump (λ x. Fixed Timescale ∷ Fixed Scope ∷ x) ls
 dump_of_lem ls g h = from_0 ls h (fixed_next 0 (replicate 20 5) ls (omega arith) (λ e. omega arith) (λ e. omega arith) g h)
 
 -- the lines are a header's and a body's
-pub dump_lines : (ls : List Line) (d : Dump (λ x. Fixed 0 ∷ Fixed 1 ∷ x) ls) → ls ≡ header_of d.pins d.tail.unknown ++ body_from false 0 d.pins d.tail.steps
+pub dump_lines : (ls : List Line) (d : Dump (λ x. Fixed Timescale ∷ Fixed Scope ∷ x) ls) → ls ≡ header_of d.pins d.tail.unknown ++ body_from false 0 d.pins d.tail.steps
 dump_lines ls d = d.tail.lines ∙ sym (regroup d.pins d.tail.unknown (body_from false 0 d.pins d.tail.steps))

@@ -12,9 +12,10 @@ use lib.Seq.{append_snoc, get_or_at, set_at, get_or-set_same, set-get_or}
 use borrow.Author.Tests.{eqb-true, eqb-false, eq-eqb, ne_eqb, lt-ltb, le-leb, ltb-true, ltb-false}
 use Rattle.vcd.specs.declared.Step.{Step}
 use Rattle.vcd.specs.declared.Step.TheVariants.{Wait, Pins}
+use Rattle.vcd.specs.declared.Mark.TheVariants.{Upscope, EndDefinitions, DumpVars, End}
 use Rattle.vcd.specs.declared.Line.{Line}
 use Rattle.vcd.specs.declared.Line.TheVariants.{Fixed, Var, Unknown, Time, Change}
-use Rattle.vcd.specs.declared.Reader.{Reader}
+use Rattle.vcd.specs.How.{Position}
 use Rattle.vcd.specs.Dump.{wires_from, header_of, changes_of, timed, body_from, Good}
 use Rattle.vcd.specs.Entries.{Entry, entries_at, entries_from}
 use Rattle.vcd.specs.How.{turn_of, var_turn, unknown_turn, time_turn, change_turn, opening, told_before, told_from, whole, entries, told_by, unchanged}
@@ -22,17 +23,17 @@ use Rattle.vcd.proofs.Starts.{Fresh, Under, There, there_set}
 
 -- what a run tells, and where it ends
 abbrev pub Run : Type 0
-Run = record { tells : List Entry; ends : Reader }
+Run = record { tells : List Entry; ends : Position }
 
-abbrev pub run : Reader → List Line → Run
+abbrev pub run : Position → List Line → Run
 run r ls = record { tells = told_from r ls; ends = foldl turn_of r ls }
 
-abbrev pub at : ℕ → ℕ → ℕ → List ℕ → List ℕ → Reader
+abbrev pub at : ℕ → ℕ → ℕ → List ℕ → List ℕ → Position
 at phase awaited now pins changed = record { phase = phase; awaited = awaited; now = now; pins = pins; changed = changed }
 
 -- ---- the header: each encoder is declared in turn, and then unknown in turn
 
-abbrev line_turn : (ℕ → Line) → Reader → ℕ → Reader
+abbrev line_turn : (ℕ → Line) → Position → ℕ → Position
 line_turn line r w = turn_of r (line w)
 
 module _ (e a : ℕ) (even : a % 2 ≡ 0) (below : a ≤ 2 * e) where
@@ -54,12 +55,12 @@ module _ (e a : ℕ) (even : a % 2 ≡ 0) (below : a ≤ 2 * e) where
   unknown_b : (pins : List ℕ) → get_or pins e 0 ≡ 4 → unknown_turn (at 5 (2 * e + 1) 0 pins unchanged) (2 * e + 1) ≡ at 5 (2 * e + 1 + 1) 0 pins unchanged
   unknown_b pins h = rw (eq-eqb ((2 * e + 1) % 2) 1 (omega arith), eq-eqb (2 * e + 1) (2 * e + 1) refl, half_odd, h)
 
-vars_done : (a : ℕ) (pins : List ℕ) (ls : List Line) → a % 2 ≡ 0 → run (at 2 a 0 pins unchanged) (Fixed 2 ∷ ls) ≡ run (at 3 0 0 pins unchanged) ls
+vars_done : (a : ℕ) (pins : List ℕ) (ls : List Line) → a % 2 ≡ 0 → run (at 2 a 0 pins unchanged) (Fixed Upscope ∷ ls) ≡ run (at 3 0 0 pins unchanged) ls
 unfolding told_from told_before turn_of
 vars_done a pins ls even = rw even
 
 pub vars : (xs p : List ℕ) (e a : ℕ) (ls : List Line) → length p ≡ e → a % 2 ≡ 0 → a ≤ 2 * e → Fresh xs
-    → run (at 2 a 0 (p ++ replicate (length xs) 5) unchanged) (wires_from Var e xs ++ Fixed 2 ∷ ls) ≡ run (at 3 0 0 (p ++ xs) unchanged) ls
+    → run (at 2 a 0 (p ++ replicate (length xs) 5) unchanged) (wires_from Var e xs ++ Fixed Upscope ∷ ls) ≡ run (at 3 0 0 (p ++ xs) unchanged) ls
 unfolding wires_from told_from told_before turn_of
 vars [] p e a ls l even below h = vars_done a (p ++ []) ls even
 vars (x ∷ xs) p e a ls l even below h =
@@ -69,7 +70,7 @@ vars (x ∷ xs) p e a ls l even below h =
     rest = replicate (length xs) 5
 
     goal : List ℕ → List Line → ℕ → Type 0
-    goal pins lines b = run (at 2 b 0 pins unchanged) (lines ++ wires_from Var (e + 1) xs ++ Fixed 2 ∷ ls) ≡ run (at 3 0 0 (p ++ x ∷ xs) unchanged) ls
+    goal pins lines b = run (at 2 b 0 pins unchanged) (lines ++ wires_from Var (e + 1) xs ++ Fixed Upscope ∷ ls) ≡ run (at 3 0 0 (p ++ x ∷ xs) unchanged) ls
 
     declared : x ≡ 4 → (y : ℕ) → set (p ++ y ∷ rest) e 4 ≡ p ++ x ∷ rest
     declared q y = rw (set_at p y rest 4 e l, q)
@@ -80,16 +81,16 @@ vars (x ∷ xs) p e a ls l even below h =
     go false q ih =
         let n = eqb-false x 5 q in
         let f : x ≡ 4 = omega (arith, h.0) in
-        ap (λ (r : Reader). run r (Var (2 * e + 1) ∷ (wires_from Var (e + 1) xs ++ Fixed 2 ∷ ls))) (var_a e a even below (p ++ 5 ∷ rest) ∙ ap (λ (q : List ℕ). at 2 (2 * e + 1) 0 q unchanged) (declared f 5))
-        ∙ ap (λ (r : Reader). run r (wires_from Var (e + 1) xs ++ Fixed 2 ∷ ls)) (var_b e a even below (p ++ x ∷ rest) ∙ ap (λ (q : List ℕ). at 2 (2 * e + 1 + 1) 0 q unchanged) (declared f x))
+        ap (λ (r : Position). run r (Var (2 * e + 1) ∷ (wires_from Var (e + 1) xs ++ Fixed Upscope ∷ ls))) (var_a e a even below (p ++ 5 ∷ rest) ∙ ap (λ (q : List ℕ). at 2 (2 * e + 1) 0 q unchanged) (declared f 5))
+        ∙ ap (λ (r : Position). run r (wires_from Var (e + 1) xs ++ Fixed Upscope ∷ ls)) (var_b e a even below (p ++ x ∷ rest) ∙ ap (λ (q : List ℕ). at 2 (2 * e + 1 + 1) 0 q unchanged) (declared f x))
         ∙ ih (2 * e + 1 + 1) (omega arith) (omega arith)
 
-unknowns_done : (a : ℕ) (pins : List ℕ) (ls : List Line) → a % 2 ≡ 0 → run (at 5 a 0 pins unchanged) (Fixed 5 ∷ ls) ≡ run (at 6 0 0 pins unchanged) ls
+unknowns_done : (a : ℕ) (pins : List ℕ) (ls : List Line) → a % 2 ≡ 0 → run (at 5 a 0 pins unchanged) (Fixed End ∷ ls) ≡ run (at 6 0 0 pins unchanged) ls
 unfolding told_from told_before turn_of
 unknowns_done a pins ls even = rw even
 
 pub unknowns : (xs ys p : List ℕ) (e a : ℕ) (ls : List Line) → length p ≡ e → a % 2 ≡ 0 → a ≤ 2 * e → length xs ≡ length ys → Under xs ys
-    → run (at 5 a 0 (p ++ ys) unchanged) (wires_from Unknown e xs ++ Fixed 5 ∷ ls) ≡ run (at 6 0 0 (p ++ ys) unchanged) ls
+    → run (at 5 a 0 (p ++ ys) unchanged) (wires_from Unknown e xs ++ Fixed End ∷ ls) ≡ run (at 6 0 0 (p ++ ys) unchanged) ls
 unfolding wires_from told_from told_before turn_of
 unknowns [] ys p e a ls l even below m h = unknowns_done a (p ++ ys) ls even
 unknowns (x ∷ xs) [] p e a ls l even below m h = absurd (omega arith)
@@ -98,24 +99,24 @@ unknowns (x ∷ xs) (y ∷ ys) p e a ls l even below m h =
     (λ b ev bel. rw (append_snoc p y ys) at (unknowns xs ys (p ++ y ∷ []) (e + 1) b ls (length-append p (y ∷ []) ∙ omega arith) ev bel (omega arith) h.1))
   where
     goal : List Line → ℕ → Type 0
-    goal lines b = run (at 5 b 0 (p ++ y ∷ ys) unchanged) (lines ++ wires_from Unknown (e + 1) xs ++ Fixed 5 ∷ ls) ≡ run (at 6 0 0 (p ++ y ∷ ys) unchanged) ls
+    goal lines b = run (at 5 b 0 (p ++ y ∷ ys) unchanged) (lines ++ wires_from Unknown (e + 1) xs ++ Fixed End ∷ ls) ≡ run (at 6 0 0 (p ++ y ∷ ys) unchanged) ls
 
     go : (t : Bool) → eqb x 5 ≡ t → ((b : ℕ) → b % 2 ≡ 0 → b ≤ 2 * (e + 1) → goal [] b) → goal (cond t [] (Unknown (2 * e) ∷ Unknown (2 * e + 1) ∷ [])) a
     go true q ih = ih a even (omega arith)
     go false q ih =
         let f : get_or (p ++ y ∷ ys) e 0 ≡ 4 = get_or_at p y ys 0 e l ∙ h.0 (eqb-false x 5 q) in
-        ap (λ (r : Reader). run r (Unknown (2 * e + 1) ∷ (wires_from Unknown (e + 1) xs ++ Fixed 5 ∷ ls))) (unknown_a e a even below (p ++ y ∷ ys) f)
-        ∙ ap (λ (r : Reader). run r (wires_from Unknown (e + 1) xs ++ Fixed 5 ∷ ls)) (unknown_b e a even below (p ++ y ∷ ys) f)
+        ap (λ (r : Position). run r (Unknown (2 * e + 1) ∷ (wires_from Unknown (e + 1) xs ++ Fixed End ∷ ls))) (unknown_a e a even below (p ++ y ∷ ys) f)
+        ∙ ap (λ (r : Position). run r (wires_from Unknown (e + 1) xs ++ Fixed End ∷ ls)) (unknown_b e a even below (p ++ y ∷ ys) f)
         ∙ ih (2 * e + 1 + 1) (omega arith) (omega arith)
 
 pub header : (pins unknown : List ℕ) (ls : List Line) → length pins ≡ 20 → length unknown ≡ 20 → Fresh pins → Under unknown pins
     → run opening (header_of pins unknown ++ ls) ≡ run (at 6 0 0 pins unchanged) ls
 unfolding told_from told_before turn_of
 header pins unknown ls e f h u =
-    let rest = Fixed 3 ∷ Fixed 4 ∷ (wires_from Unknown 0 unknown ++ Fixed 5 ∷ []) in
-    ap (run (at 2 0 0 (replicate 20 5) unchanged)) (append_assoc (wires_from Var 0 pins) (Fixed 2 ∷ rest) ls)
+    let rest = Fixed EndDefinitions ∷ Fixed DumpVars ∷ (wires_from Unknown 0 unknown ++ Fixed End ∷ []) in
+    ap (run (at 2 0 0 (replicate 20 5) unchanged)) (append_assoc (wires_from Var 0 pins) (Fixed Upscope ∷ rest) ls)
     ∙ (rw e at (vars pins [] 0 0 (rest ++ ls) refl refl (omega arith) h))
-    ∙ ap (run (at 5 0 0 pins unchanged)) (append_assoc (wires_from Unknown 0 unknown) (Fixed 5 ∷ []) ls)
+    ∙ ap (run (at 5 0 0 pins unchanged)) (append_assoc (wires_from Unknown 0 unknown) (Fixed End ∷ []) ls)
     ∙ unknowns unknown pins [] 0 0 ls refl refl (omega arith) (f ∙ sym e) u
 
 -- ---- one pins record's changes
@@ -175,8 +176,8 @@ module _ (ph now e v : ℕ) (pins ch : List ℕ) (ls : List Line) (in_time : eqb
   first_changes h =
       let x = 4 + v % 2 in
       ap (λ (q : ℕ). run (at ph 0 now pins ch) (changes_of e q v ++ ls)) h
-      ∙ ap (λ (r : Reader). run r (Change (2 * e + 1) (v / 2) ∷ ls)) (first_a ph now e (v % 2) (v / 2) pins ch in_time a_small b_small in_row p is h)
-      ∙ ap (λ (r : Reader). run r ls) (then_b 8 now e (v % 2) (v / 2) (set pins e x) (set ch e 1) refl a_small b_small (long_middle x) x (middle x) ∙ twice x (x % 2 + 2 * (v / 2)) (omega arith))
+      ∙ ap (λ (r : Position). run r (Change (2 * e + 1) (v / 2) ∷ ls)) (first_a ph now e (v % 2) (v / 2) pins ch in_time a_small b_small in_row p is h)
+      ∙ ap (λ (r : Position). run r ls) (then_b 8 now e (v % 2) (v / 2) (set pins e x) (set ch e 1) refl a_small b_small (long_middle x) x (middle x) ∙ twice x (x % 2 + 2 * (v / 2)) (omega arith))
 
   pub known_changes : p < 4 → (p ≡ v → ⊥) → run (at ph 0 now pins ch) (changes_of e p v ++ ls) ≡ after
   unfolding changes_of told_from told_before turn_of
@@ -188,21 +189,21 @@ module _ (ph now e v : ℕ) (pins ch : List ℕ) (ls : List Line) (in_time : eqb
       go true false q r =
           let i = eqb-true (p % 2) (v % 2) q in
           let s : p % 2 + 2 * (v / 2) ≡ v = omega arith in
-          ap (λ (u : Reader). run u ls)
+          ap (λ (u : Position). run u ls)
           (known_b ph now e (v % 2) (v / 2) pins ch in_time a_small b_small in_row p is h (eqb-false (p / 2) (v / 2) r)
           ∙ ap (λ (k : ℕ). at 8 0 now (set pins e k) (set ch e 1)) s)
       go false true q r =
           let i = eqb-true (p / 2) (v / 2) r in
           let s : 2 * (p / 2) + v % 2 ≡ v = omega arith in
-          ap (λ (u : Reader). run u ls)
+          ap (λ (u : Position). run u ls)
           (known_a ph now e (v % 2) (v / 2) pins ch in_time a_small b_small in_row p is h (eqb-false (p % 2) (v % 2) q)
           ∙ ap (λ (k : ℕ). at 8 0 now (set pins e k) (set ch e 1)) s)
       go false false q r =
           let x = 2 * (p / 2) + v % 2 in
           let m : x / 2 ≡ v / 2 → ⊥ = λ f. eqb-false (p / 2) (v / 2) r (omega arith) in
-          ap (λ (u : Reader). run u (Change (2 * e + 1) (v / 2) ∷ ls))
+          ap (λ (u : Position). run u (Change (2 * e + 1) (v / 2) ∷ ls))
           (known_a ph now e (v % 2) (v / 2) pins ch in_time a_small b_small in_row p is h (eqb-false (p % 2) (v % 2) q))
-          ∙ ap (λ (u : Reader). run u ls)
+          ∙ ap (λ (u : Position). run u ls)
           (known_b 8 now e (v % 2) (v / 2) (set pins e x) (set ch e 1) refl a_small b_small (long_middle x) x (middle x) (omega arith) m
           ∙ twice x (x % 2 + 2 * (v / 2)) (omega arith))
 
@@ -262,10 +263,10 @@ ends_there ph u now = go (eqb ph 6) (eqb ph 8) (ltb u now)
     go false false z e = absurd (false≢true e)
 
 -- what a run tells, and that it may end
-abbrev pub Tells : Reader → List Line → List Entry → Type 0
+abbrev pub Tells : Position → List Line → List Entry → Type 0
 Tells r ls xs = (told_from r ls ≡ xs) × (whole (foldl turn_of r ls) ≡ true)
 
-by_run : (r q : Reader) (ls ms : List Line) (xs : List Entry) → run r ls ≡ run q ms → Tells q ms xs → Tells r ls xs
+by_run : (r q : Position) (ls ms : List Line) (xs : List Entry) → run r ls ≡ run q ms → Tells q ms xs → Tells r ls xs
 by_run r q ls ms xs e t = (ap (λ (x : Run). x.tells) e ∙ t.0, ap (λ (x : Run). whole x.ends) e ∙ t.1)
 
 time_taken : (ph u now : ℕ) (pins ch : List ℕ) → Stands false ph u now → now % 25 ≡ 0 → time_turn (at ph 0 u pins ch) now ≡ at 7 0 now pins unchanged
@@ -276,8 +277,8 @@ time_told : (ph u now : ℕ) (pins ch : List ℕ) (ls : List Line) (xs : List En
 unfolding told_from told_before turn_of
 time_told ph u now pins ch ls xs s d t =
     let e = time_taken ph u now pins ch s d in (
-      ap (λ (r : Reader). entries_at u 0 pins ch ++ told_from r ls) e ∙ ap (λ (l : List Entry). entries_at u 0 pins ch ++ l) t.0,
-      ap (λ (r : Reader). whole (foldl turn_of r ls)) e ∙ t.1,
+      ap (λ (r : Position). entries_at u 0 pins ch ++ told_from r ls) e ∙ ap (λ (l : List Entry). entries_at u 0 pins ch ++ l) t.0,
+      ap (λ (r : Position). whole (foldl turn_of r ls)) e ∙ t.1,
     )
 
 -- what is still to be told

@@ -11,6 +11,7 @@ use lib.Seq.{append_snoc, get_or-set_same, get_or-set_other}
 use borrow.Author.Tests.{eqb-true, eqb-false, eq-eqb, ne_eqb, lt-ltb, le-ltb, ltb-true, ltb-false}
 use Rattle.vcd.specs.declared.Step.{Step}
 use Rattle.vcd.specs.declared.Step.TheVariants.{Wait, Pins}
+use Rattle.vcd.specs.declared.Mark.TheVariants.{Upscope, EndDefinitions, DumpVars, End}
 use Rattle.vcd.specs.declared.Line.{Line}
 use Rattle.vcd.specs.declared.Line.TheVariants.{Fixed, Var, Unknown, Time, Change, Other}
 use Rattle.vcd.specs.Dump.{start_of, wires_from, header_of, change_of, changes_of, timed, body_from, dump_of, Good}
@@ -121,15 +122,15 @@ module _ (pins : List ℕ) (ls : List Line) where
   unfolding times_in
   header_times =
       ap times_in (regroup pins pins ls)
-      ∙ no_times Var var_plain pins 0 (Fixed 2 ∷ Fixed 3 ∷ Fixed 4 ∷ (wires_from Unknown 0 pins ++ Fixed 5 ∷ ls))
-      ∙ no_times Unknown unknown_plain pins 0 (Fixed 5 ∷ ls)
+      ∙ no_times Var var_plain pins 0 (Fixed Upscope ∷ Fixed EndDefinitions ∷ Fixed DumpVars ∷ (wires_from Unknown 0 pins ++ Fixed End ∷ ls))
+      ∙ no_times Unknown unknown_plain pins 0 (Fixed End ∷ ls)
 
   header_values : (wire : ℕ) → values_of wire (header_of pins pins ++ ls) ≡ values_of wire ls
   unfolding values_of
   header_values wire =
       ap (values_of wire) (regroup pins pins ls)
-      ∙ no_values Var var_plain wire pins 0 (Fixed 2 ∷ Fixed 3 ∷ Fixed 4 ∷ (wires_from Unknown 0 pins ++ Fixed 5 ∷ ls))
-      ∙ no_values Unknown unknown_plain wire pins 0 (Fixed 5 ∷ ls)
+      ∙ no_values Var var_plain wire pins 0 (Fixed Upscope ∷ Fixed EndDefinitions ∷ Fixed DumpVars ∷ (wires_from Unknown 0 pins ++ Fixed End ∷ ls))
+      ∙ no_values Unknown unknown_plain wire pins 0 (Fixed End ∷ ls)
 
 -- ---- a pins record's lines
 

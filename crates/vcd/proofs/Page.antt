@@ -4,6 +4,7 @@ use mathlib.Core.List.{List, [], ◌∷◌}
 use Prim.Native.Nat.{ℕ}
 use Rattle.vcd.specs.declared.Step.{Step}
 use Rattle.vcd.specs.declared.Step.TheVariants.{Wait, Pins}
+use Rattle.vcd.specs.declared.Mark.TheVariants.{Timescale, Scope, Upscope, EndDefinitions, DumpVars, End}
 use Rattle.vcd.specs.declared.Line.TheVariants.{Fixed, Var, Unknown, Time, Change}
 use Rattle.vcd.specs.Dump.{declared, wires_from, changes_of, timed, body_from, dump_of}
 use Rattle.vcd.specs.Entries.{Entry, entries_at, entries_from, entries_in}
@@ -13,7 +14,7 @@ abbrev pub steps : List Step
 steps = Wait 4 ∷ Pins 3 0 ∷ Wait 4 ∷ Pins 3 1 ∷ Pins 3 3 ∷ Pins 10 2 ∷ Wait 0 ∷ Pins 10 2 ∷ Wait 4 ∷ Pins 3 3 ∷ Wait 4 ∷ Pins 3 0 ∷ Wait 1_000 ∷ []
 
 pub page : dump_of steps
-    ≡ Fixed 0 ∷ Fixed 1 ∷ Var 6 ∷ Var 7 ∷ Var 20 ∷ Var 21 ∷ Fixed 2 ∷ Fixed 3 ∷ Fixed 4 ∷ Unknown 6 ∷ Unknown 7 ∷ Unknown 20 ∷ Unknown 21 ∷ Fixed 5
+    ≡ Fixed Timescale ∷ Fixed Scope ∷ Var 6 ∷ Var 7 ∷ Var 20 ∷ Var 21 ∷ Fixed Upscope ∷ Fixed EndDefinitions ∷ Fixed DumpVars ∷ Unknown 6 ∷ Unknown 7 ∷ Unknown 20 ∷ Unknown 21 ∷ Fixed End
     ∷ Time 100 ∷ Change 6 0 ∷ Change 7 0
     ∷ Time 200 ∷ Change 6 1 ∷ Change 7 1 ∷ Change 20 0 ∷ Change 21 1
     ∷ Time 400 ∷ Change 6 0 ∷ Change 7 0 ∷ []

@@ -8,16 +8,20 @@ use native.Mathlib.Omega.{arith}
 use lib.Dec.{eqb, ltb, leb}
 use lib.ListN.{length, get_or}
 use lib.Seq.{append_snoc}
-use borrow.Author.Tests.{lt-ltb, ltb-true, ltb-false, leb-true, eqb-true, eqb-false, ne_eqb}
+use borrow.Author.Tests.{lt-ltb, ltb-true, leb-true, eqb-true, eqb-false, ne_eqb}
 use Rattle.laws.proofs.Truth.{both_true}
+use Rattle.std.specs.Prelude.{Option, Some, None, bytes_eq}
+use Rattle.std.proofs.lemmas.Slice.Eq.{bytes_eq-Decides}
 use Rattle.decimal.specs.Decimal.{are_digits, value_from, decimal_of}
 use Rattle.decimal.specs.Digits.{digits_of}
 use Rattle.decimal.proofs.Back.{digits_small, digits_more}
+use Rattle.vcd.specs.declared.Mark.{Mark}
+use Rattle.vcd.specs.declared.Mark.TheVariants.{Timescale, Scope, Upscope, EndDefinitions, DumpVars, End}
 use Rattle.vcd.specs.declared.Line.{Line}
 use Rattle.vcd.specs.declared.Line.TheVariants.{Fixed, Var, Unknown, Time, Change, Other}
-use Rattle.vcd.specs.declared.Reader.{Reader}
-use Rattle.vcd.specs.Lines.{code_of, var_of, print_of, text_of}
-use Rattle.vcd.specs.How.{same, wire_of, var_with, fixed_at, head_of, number_of, time_of, value_of, change_in, line_of, lines_from, refused, follows, taken, turn_of, whole}
+use Rattle.vcd.specs.How.{Position}
+use Rattle.vcd.specs.Lines.{place, code_of, var_of, print_of, text_of}
+use Rattle.vcd.specs.How.{wire_of, var_with, fixed_at, head_of, number_of, time_of, value_of, change_in, line_of, lines_from, refused, follows, taken, turn_of, whole}
 use Rattle.vcd.proofs.Print.{GoodLine, GoodLines}
 use Rattle.vcd.proofs.Heart.{at}
 
@@ -30,43 +34,37 @@ fair_if : (t : Bool) (s : List ℕ) (l m : Line) → (t ≡ true → Fair s l) �
 fair_if true s l m h k = h refl
 fair_if false s l m h k = k refl
 
-same_true : (s t : List ℕ) → same s t ≡ true → t ≡ s
-unfolding same
-same_true [] [] e = refl
-same_true [] (b ∷ t) e = absurd (false≢true e)
-same_true (a ∷ s) [] e = absurd (false≢true e)
-same_true (a ∷ s) (b ∷ t) e =
-    let q = both_true (eqb a b) (same s t) e in
-    let h = eqb-true a b q.0 in
-    let r = same_true s t q.1 in
-    cc
+same_true : (s t : List ℕ) → bytes_eq s t ≡ true → t ≡ s
+same_true s t e = sym ((bytes_eq-Decides s t).0 e)
 
-code_forth : (c : ℕ) → wire_of c < 40 → code_of (wire_of c) ≡ c
-code_forth c = go (ltb c 65) (ltb c 85) (ltb c 97) (ltb c 117) refl refl refl refl
+-- a letter that has a wire is that wire's
+pub wire_forth : (c w : ℕ) → wire_of c ≡ Some w → (w < 40) × (code_of w ≡ c)
+wire_forth c w = go (leb 65 c) (leb c 84) (leb 97 c) (leb c 116) refl refl refl refl
   where
-    go : (x y z u : Bool) → ltb c 65 ≡ x → ltb c 85 ≡ y → ltb c 97 ≡ z → ltb c 117 ≡ u
-        → cond x 40 (cond y (c - 65) (cond z 40 (cond u (c - 77) 40))) < 40 → code_of (cond x 40 (cond y (c - 65) (cond z 40 (cond u (c - 77) 40)))) ≡ c
-    go true y z u a b d e h = absurd (omega arith)
-    go false true z u a b d e h = omega (arith, ltb-false c 65 a, ltb-true c 85 b)
-    go false false true u a b d e h = absurd (omega arith)
-    go false false false true a b d e h = omega (arith, ltb-false c 97 d, ltb-true c 117 e)
-    go false false false false a b d e h = absurd (omega arith)
+    go : (x y z u : Bool) → leb 65 c ≡ x → leb c 84 ≡ y → leb 97 c ≡ z → leb c 116 ≡ u
+        → cond (x && y) (Some (c - 65)) (cond (z && u) (Some (c - 77)) None) ≡ Some w → (w < 40) × (code_of w ≡ c)
+    go true true z u a b d e h = let l = leb-true 65 c a in let m = leb-true c 84 b in let i : c - 65 ≡ w = cc in (omega arith, omega arith)
+    go true false true true a b d e h = let l = leb-true 97 c d in let m = leb-true c 116 e in let i : c - 77 ≡ w = cc in (omega arith, omega arith)
+    go false y true true a b d e h = let l = leb-true 97 c d in let m = leb-true c 116 e in let i : c - 77 ≡ w = cc in (omega arith, omega arith)
+    go true false true false a b d e h = cc
+    go true false false u a b d e h = cc
+    go false y true false a b d e h = cc
+    go false y false u a b d e h = cc
 
-fair_var : (s : List ℕ) (w : ℕ) → Fair s (var_with s w)
+fair_var : (s : List ℕ) (o : Option ℕ) → ((w : ℕ) → o ≡ Some w → w < 40) → Fair s (var_with s o)
 unfolding print_of
-fair_var s w =
-    fair_if (ltb w 40) s (cond (same s (var_of w)) (Var w) Other) Other
-    (λ h. fair_if (same s (var_of w)) s (Var w) Other (λ e. inr (ltb-true w 40 h, same_true s (var_of w) e)) (λ e. inl refl)) (λ h. inl refl)
+fair_var s None h = inl refl
+fair_var s (Some w) h = fair_if (bytes_eq s (var_of w)) s (Var w) Other (λ e. inr (h w refl, same_true s (var_of w) e)) (λ e. inl refl)
 
 fair_head : (s : List ℕ) → Fair s (head_of s)
 unfolding head_of print_of
 fair_head s =
-    fair_if (same s (fixed_at 0)) s (Fixed 0) _ (λ e. inr (omega arith, same_true s (fixed_at 0) e))
-    (λ _. fair_if (same s (fixed_at 1)) s (Fixed 1) _ (λ e. inr (omega arith, same_true s (fixed_at 1) e))
-    (λ _. fair_if (same s (fixed_at 2)) s (Fixed 2) _ (λ e. inr (omega arith, same_true s (fixed_at 2) e))
-    (λ _. fair_if (same s (fixed_at 3)) s (Fixed 3) _ (λ e. inr (omega arith, same_true s (fixed_at 3) e))
-    (λ _. fair_if (same s (fixed_at 4)) s (Fixed 4) _ (λ e. inr (omega arith, same_true s (fixed_at 4) e))
-    (λ _. fair_if (same s (fixed_at 5)) s (Fixed 5) _ (λ e. inr (omega arith, same_true s (fixed_at 5) e)) (λ _. fair_var s (wire_of (get_or s 12 0))))))))
+    fair_if (bytes_eq s (fixed_at 0)) s (Fixed Timescale) _ (λ e. inr (tt, same_true s (fixed_at 0) e))
+    (λ _. fair_if (bytes_eq s (fixed_at 1)) s (Fixed Scope) _ (λ e. inr (tt, same_true s (fixed_at 1) e))
+    (λ _. fair_if (bytes_eq s (fixed_at 2)) s (Fixed Upscope) _ (λ e. inr (tt, same_true s (fixed_at 2) e))
+    (λ _. fair_if (bytes_eq s (fixed_at 3)) s (Fixed EndDefinitions) _ (λ e. inr (tt, same_true s (fixed_at 3) e))
+    (λ _. fair_if (bytes_eq s (fixed_at 4)) s (Fixed DumpVars) _ (λ e. inr (tt, same_true s (fixed_at 4) e))
+    (λ _. fair_if (bytes_eq s (fixed_at 5)) s (Fixed End) _ (λ e. inr (tt, same_true s (fixed_at 5) e)) (λ _. fair_var s (wire_of (get_or s 12 0)) (λ w e. (wire_forth (get_or s 12 0) w e).0)))))))
 
 -- digits that follow a number's
 digits_on : (bs : List ℕ) (v : ℕ) → 0 < v → are_digits bs ≡ true → digits_of (value_from v bs) ≡ digits_of v ++ bs
@@ -114,27 +112,20 @@ fair_time d = fair_if (eqb (get_or d 0 0) 48 && ltb 2 (suc (length d))) (35 ∷ 
         rw q (inr (ltb-true (value_from 0 d) (2 ^ 64) a.1, ap (λ (s : List ℕ). 35 ∷ s) (digits_forth d (ltb-true 0 (length d) b.0) b.1 z)))
     by false q z = rw q (inl refl)
 
-fair_value : (b c : ℕ) → Fair (b ∷ c ∷ []) (value_of b (wire_of c))
+fair_value : (b c : ℕ) (o : Option ℕ) → ((w : ℕ) → o ≡ Some w → (w < 40) × (code_of w ≡ c)) → Fair (b ∷ c ∷ []) (value_of b o)
 unfolding print_of
-fair_value b c =
-    fair_if (ltb w 40) s _ Other
-    (λ e. let l = ltb-true w 40 e in let k = code_forth c l in
-    fair_if (eqb b 120) s (Unknown w) _ (λ q. inr (l, rw (eqb-true b 120 q, k)))
-    (λ _. fair_if (eqb b 48) s (Change w 0) _ (λ q. inr ((l, omega arith), rw (eqb-true b 48 q, k)))
-    (λ _. fair_if (eqb b 49) s (Change w 1) Other (λ q. inr ((l, omega arith), rw (eqb-true b 49 q, k))) (λ _. inl refl))))
-    (λ e. inl refl)
-  where
-    w : ℕ
-    w = wire_of c
-
-    s : List ℕ
-    s = b ∷ c ∷ []
+fair_value b c None h = inl refl
+fair_value b c (Some w) h =
+    let q = h w refl in
+    fair_if (eqb b 120) (b ∷ c ∷ []) (Unknown w) _ (λ e. inr (q.0, rw (eqb-true b 120 e, q.1)))
+    (λ _. fair_if (eqb b 48) (b ∷ c ∷ []) (Change w 0) _ (λ e. inr ((q.0, omega arith), rw (eqb-true b 48 e, q.1)))
+    (λ _. fair_if (eqb b 49) (b ∷ c ∷ []) (Change w 1) Other (λ e. inr ((q.0, omega arith), rw (eqb-true b 49 e, q.1))) (λ _. inl refl)))
 
 fair_change : (s : List ℕ) → Fair s (change_in s)
 unfolding change_in
 fair_change [] = inl refl
 fair_change (a ∷ []) = inl refl
-fair_change (a ∷ b ∷ []) = fair_value a b
+fair_change (a ∷ b ∷ []) = fair_value a b (wire_of b) (wire_forth b)
 fair_change (a ∷ b ∷ c ∷ s) = inl (rw (ne_eqb (suc (suc (suc (length s)))) 2 (omega arith)))
 
 pub line_forth : (s : List ℕ) → Fair s (line_of s)
@@ -144,18 +135,18 @@ line_forth (a ∷ s) = fair_if (eqb a 35) (a ∷ s) _ _ (λ e. subst (λ (b : �
 
 -- ---- who has refused refuses
 
-abbrev pub Accepts : Reader → List Line → Type 0
+abbrev pub Accepts : Position → List Line → Type 0
 Accepts r ls = whole (foldl turn_of r ls) ≡ true
 
 stuck : (ls : List Line) (a n : ℕ) (p c : List ℕ) → Accepts (at 9 a n p c) ls → ⊥
 unfolding turn_of
 stuck [] a n p c e = false≢true e
-stuck (Fixed k ∷ ls) a n p c e = by (eqb 9 k) (ltb k 6) refl refl e (stuck ls a n p c)
-  where
-    by : (x y : Bool) → eqb 9 k ≡ x → ltb k 6 ≡ y → Accepts (cond (x && (y && eqb (a % 2) 0)) (at (k + 1) 0 n p c) (at 9 a n p c)) ls → (Accepts (at 9 a n p c) ls → ⊥) → ⊥
-    by true true q r e ih = omega (arith, eqb-true 9 k q, ltb-true k 6 r)
-    by true false q r e ih = ih e
-    by false y q r e ih = ih e
+stuck (Fixed Timescale ∷ ls) a n p c e = stuck ls a n p c e
+stuck (Fixed Scope ∷ ls) a n p c e = stuck ls a n p c e
+stuck (Fixed Upscope ∷ ls) a n p c e = stuck ls a n p c e
+stuck (Fixed EndDefinitions ∷ ls) a n p c e = stuck ls a n p c e
+stuck (Fixed DumpVars ∷ ls) a n p c e = stuck ls a n p c e
+stuck (Fixed End ∷ ls) a n p c e = stuck ls a n p c e
 stuck (Var w ∷ ls) a n p c e = stuck ls a n p c e
 stuck (Unknown w ∷ ls) a n p c e = stuck ls a n p c e
 stuck (Time t ∷ ls) a n p c e = stuck ls a n p c e
@@ -163,19 +154,19 @@ stuck (Change w b ∷ ls) a n p c e = stuck ls a n p c e
 stuck (Other ∷ ls) a n p c e = stuck ls a n p c e
 
 -- so each line of what is accepted is taken
-must : (t : Bool) (r q : Reader) (ls : List Line) → Accepts (cond t q (refused r)) ls → t ≡ true
+must : (t : Bool) (r q : Position) (ls : List Line) → Accepts (cond t q (refused r)) ls → t ≡ true
 must true r q ls e = refl
 must false r q ls e = absurd (stuck ls r.awaited r.now r.pins r.changed e)
 
 module _ (ph awaited now : ℕ) (pins ch : List ℕ) (ls : List Line) where
-  abbrev here : Reader
+  abbrev here : Position
   here = at ph awaited now pins ch
 
-  pub fixed_taken : (k : ℕ) → Accepts here (Fixed k ∷ ls) → (ph ≡ k) × (awaited % 2 ≡ 0)
+  pub fixed_taken : (m : Mark) → Accepts here (Fixed m ∷ ls) → (ph ≡ place m) × (awaited % 2 ≡ 0)
   unfolding turn_of
-  fixed_taken k h =
-      let q = both_true (eqb ph k) (ltb k 6 && eqb (awaited % 2) 0) (must _ here _ ls h) in
-      (eqb-true ph k q.0, eqb-true (awaited % 2) 0 (both_true (ltb k 6) (eqb (awaited % 2) 0) q.1).1)
+  fixed_taken m h =
+      let q = both_true (eqb ph (place m)) (eqb (awaited % 2) 0) (must _ here _ ls h) in
+      (eqb-true ph (place m) q.0, eqb-true (awaited % 2) 0 q.1)
 
   pub var_taken : (w : ℕ) → Accepts here (Var w ∷ ls) → (ph ≡ 2) × (follows awaited w ≡ true)
   unfolding turn_of
@@ -201,18 +192,18 @@ module _ (ph awaited now : ℕ) (pins ch : List ℕ) (ls : List Line) where
 
 -- ---- a text is that of its lines
 
-pub text_forth : (s line : List ℕ) (r : Reader) → Accepts r (lines_from line s) → GoodLines (lines_from line s) × (text_of (lines_from line s) ≡ line ++ s)
+pub text_forth : (s line : List ℕ) (r : Position) → Accepts r (lines_from line s) → GoodLines (lines_from line s) × (text_of (lines_from line s) ≡ line ++ s)
 unfolding lines_from text_of turn_of
 text_forth [] [] r e = (tt, refl)
 text_forth [] (a ∷ line) r e = absurd (stuck [] r.awaited r.now r.pins r.changed (rw (ne_eqb (suc (length line)) 0 (omega arith)) at e))
 text_forth (b ∷ s) line r e = go (eqb b 10) refl e (λ q. text_forth s [] q) (text_forth s (line ++ b ∷ []) r)
   where
-    cut : (l : Line) → Fair line l → b ≡ 10 → Accepts r (l ∷ lines_from [] s) → ((q : Reader) → Accepts q (lines_from [] s) → GoodLines (lines_from [] s) × (text_of (lines_from [] s) ≡ s)) → GoodLines (l ∷ lines_from [] s) × (text_of (l ∷ lines_from [] s) ≡ line ++ b ∷ s)
+    cut : (l : Line) → Fair line l → b ≡ 10 → Accepts r (l ∷ lines_from [] s) → ((q : Position) → Accepts q (lines_from [] s) → GoodLines (lines_from [] s) × (text_of (lines_from [] s) ≡ s)) → GoodLines (l ∷ lines_from [] s) × (text_of (l ∷ lines_from [] s) ≡ line ++ b ∷ s)
     cut l (inl o) t e ih = absurd (stuck (lines_from [] s) r.awaited r.now r.pins r.changed (subst (λ (k : Line). Accepts r (k ∷ lines_from [] s)) o e))
     cut l (inr g) t e ih = let h = ih (turn_of r l) e in ((g.0, h.0), rw (g.1, h.1, t))
 
     go : (t : Bool) → eqb b 10 ≡ t → Accepts r (cond t (line_of line ∷ lines_from [] s) (lines_from (line ++ b ∷ []) s))
-        → ((q : Reader) → Accepts q (lines_from [] s) → GoodLines (lines_from [] s) × (text_of (lines_from [] s) ≡ s))
+        → ((q : Position) → Accepts q (lines_from [] s) → GoodLines (lines_from [] s) × (text_of (lines_from [] s) ≡ s))
         → (Accepts r (lines_from (line ++ b ∷ []) s) → GoodLines (lines_from (line ++ b ∷ []) s) × (text_of (lines_from (line ++ b ∷ []) s) ≡ line ++ b ∷ [] ++ s))
         → GoodLines (cond t (line_of line ∷ lines_from [] s) (lines_from (line ++ b ∷ []) s)) × (text_of (cond t (line_of line ∷ lines_from [] s) (lines_from (line ++ b ∷ []) s)) ≡ line ++ b ∷ s)
     go true q e ih jh = cut (line_of line) (line_forth line) (eqb-true b 10 q) e ih

@@ -8,6 +8,7 @@ use lib.Dec.{ltb}
 use lib.ListN.{length}
 use borrow.Author.Tests.{le-ltb, ltb-false}
 use Rattle.vcd.specs.declared.Step.{Step}
+use Rattle.vcd.specs.declared.Mark.TheVariants.{Timescale, Scope}
 use Rattle.vcd.specs.declared.Line.{Line}
 use Rattle.vcd.specs.declared.Line.TheVariants.{Fixed}
 use Rattle.vcd.specs.Lines.{text_of}
@@ -63,7 +64,7 @@ module _ (text : List ℕ) (xs : List Entry) (short : length text ≤ 25207) (to
   same_entries : (ys : List Entry) → told_by (lines_of text) ≡ entries ys → xs ≡ ys
   same_entries ys e = cc
 
-  dump_reads : text_of (lines_of text) ≡ text → Dump (λ x. Fixed 0 ∷ Fixed 1 ∷ x) (lines_of text) → Reads text xs
+  dump_reads : text_of (lines_of text) ≡ text → Dump (λ x. Fixed Timescale ∷ Fixed Scope ∷ x) (lines_of text) → Reads text xs
   dump_reads is d =
       let pins = d.pins in
       let t = d.tail in

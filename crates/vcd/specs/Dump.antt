@@ -3,6 +3,7 @@ use Rattle.std.specs.Prelude.{Bool, false, ◌&&◌, ◌||◌, not, cond, ℕ, �
 use mathlib.Core.List.{List, [], ◌∷◌, ◌++◌, foldl}
 use Rattle.vcd.specs.declared.Step.{Step}
 use Rattle.vcd.specs.declared.Step.TheVariants.{Wait, Pins}
+use Rattle.vcd.specs.declared.Mark.TheVariants.{Timescale, Scope, Upscope, EndDefinitions, DumpVars, End}
 use Rattle.vcd.specs.declared.Line.{Line}
 use Rattle.vcd.specs.declared.Line.TheVariants.{Fixed, Var, Unknown, Time, Change}
 
@@ -24,7 +25,7 @@ wires_from line e (p ∷ ps) = cond (eqb p 5) [] (line (2 * e) ∷ line (2 * e +
 
 -- pins: of the encoders that are declared; unknown: of those with `x` lines
 abbrev pub header_of : List ℕ → List ℕ → List Line
-header_of pins unknown = Fixed 0 ∷ Fixed 1 ∷ (wires_from Var 0 pins ++ Fixed 2 ∷ Fixed 3 ∷ Fixed 4 ∷ (wires_from Unknown 0 unknown ++ Fixed 5 ∷ []))
+header_of pins unknown = Fixed Timescale ∷ Fixed Scope ∷ (wires_from Var 0 pins ++ Fixed Upscope ∷ Fixed EndDefinitions ∷ Fixed DumpVars ∷ (wires_from Unknown 0 unknown ++ Fixed End ∷ []))
 
 -- ---- the changes
 

@@ -1,41 +1,41 @@
 -- How the reader gets there: a text cut into lines, what each line says, and what it makes of the reader. No public promise rests on this.
 -- Assumes nothing.
-use Rattle.std.specs.Prelude.{Bool, true, false, ◌&&◌, ◌||◌, not, cond, ℕ, ◌+◌, ◌-◌, ◌*◌, ◌/◌, ◌%◌, eqb, ltb, leb, length, get_or, set, drop, replicate, Option, Some, None}
-use mathlib.Core.List.{List, [], ◌∷◌, ◌++◌, foldl}
+use Rattle.std.specs.Prelude.{Bool, ◌&&◌, ◌||◌, not, cond, ℕ, ◌+◌, ◌-◌, ◌*◌, ◌/◌, ◌%◌, eqb, ltb, leb, length, get_or, set, drop, replicate, Option, Some, None, bytes_eq}
+use mathlib.Core.List.{List, [], ◌∷◌, ◌++◌, foldl, map}
 use Rattle.decimal.specs.Decimal.{decimal_of}
+use Rattle.vcd.specs.declared.Mark.{Mark}
+use Rattle.vcd.specs.declared.Mark.TheVariants.{Timescale, Scope, Upscope, EndDefinitions, DumpVars, End}
 use Rattle.vcd.specs.declared.Line.{Line}
 use Rattle.vcd.specs.declared.Line.TheVariants.{Fixed, Var, Unknown, Time, Change, Other}
+use Rattle.vcd.specs.declared.Phase.{Phase}
+use Rattle.vcd.specs.declared.Phase.TheVariants.{Header, FirstTime, FirstChange, Changes, Refused}
+use Rattle.vcd.specs.declared.Channel.{Channel}
 use Rattle.vcd.specs.declared.Reader.{Reader}
-use Rattle.vcd.specs.Lines.{fixed_lines, var_of}
+use Rattle.vcd.specs.Lines.{fixed_lines, place, var_of}
 use Rattle.vcd.specs.Entries.{Entry, entries_at}
 
 -- ---- a line
 
-unfoldable pub same : List ℕ → List ℕ → Bool
-same [] [] = true
-same [] (b ∷ t) = false
-same (a ∷ s) [] = false
-same (a ∷ s) (b ∷ t) = eqb a b && same s t
-
--- a letter's wire; 40 for any other byte
-abbrev pub wire_of : ℕ → ℕ
-wire_of c = cond (ltb c 65) 40 (cond (ltb c 85) (c - 65) (cond (ltb c 97) 40 (cond (ltb c 117) (c - 77) 40)))
+-- a letter's wire
+abbrev pub wire_of : ℕ → Option ℕ
+wire_of c = cond (leb 65 c && leb c 84) (Some (c - 65)) (cond (leb 97 c && leb c 116) (Some (c - 77)) None)
 
 -- a line that begins with "$"; byte 12 of a declaration is the wire's letter
-abbrev pub var_with : List ℕ → ℕ → Line
-var_with s w = cond (ltb w 40) (cond (same s (var_of w)) (Var w) Other) Other
+abbrev pub var_with : List ℕ → Option ℕ → Line
+var_with s None = Other
+var_with s (Some w) = cond (bytes_eq s (var_of w)) (Var w) Other
 
 abbrev pub fixed_at : ℕ → List ℕ
 fixed_at k = get_or fixed_lines k []
 
 unfoldable pub head_of : List ℕ → Line
 head_of s =
-    cond (same s (fixed_at 0)) (Fixed 0)
-    (cond (same s (fixed_at 1)) (Fixed 1)
-    (cond (same s (fixed_at 2)) (Fixed 2)
-    (cond (same s (fixed_at 3)) (Fixed 3)
-    (cond (same s (fixed_at 4)) (Fixed 4)
-    (cond (same s (fixed_at 5)) (Fixed 5) (var_with s (wire_of (get_or s 12 0))))))))
+    cond (bytes_eq s (fixed_at 0)) (Fixed Timescale)
+    (cond (bytes_eq s (fixed_at 1)) (Fixed Scope)
+    (cond (bytes_eq s (fixed_at 2)) (Fixed Upscope)
+    (cond (bytes_eq s (fixed_at 3)) (Fixed EndDefinitions)
+    (cond (bytes_eq s (fixed_at 4)) (Fixed DumpVars)
+    (cond (bytes_eq s (fixed_at 5)) (Fixed End) (var_with s (wire_of (get_or s 12 0))))))))
 
 -- a line that begins with "#": "no leading zero"
 abbrev pub number_of : Option ℕ → Line
@@ -46,8 +46,9 @@ unfoldable pub time_of : List ℕ → Line
 time_of s = cond (eqb (get_or s 1 0) 48 && ltb 2 (length s)) Other (number_of (decimal_of (drop 1 s)))
 
 -- a line of two bytes, a value and a wire's letter
-abbrev pub value_of : ℕ → ℕ → Line
-value_of b w = cond (ltb w 40) (cond (eqb b 120) (Unknown w) (cond (eqb b 48) (Change w 0) (cond (eqb b 49) (Change w 1) Other))) Other
+abbrev pub value_of : ℕ → Option ℕ → Line
+value_of b None = Other
+value_of b (Some w) = cond (eqb b 120) (Unknown w) (cond (eqb b 48) (Change w 0) (cond (eqb b 49) (Change w 1) Other))
 
 unfoldable pub change_in : List ℕ → Line
 change_in s = cond (eqb (length s) 2) (value_of (get_or s 0 0) (wire_of (get_or s 1 0))) Other
@@ -64,38 +65,66 @@ lines_from line (b ∷ s) = cond (eqb b 10) (line_of line ∷ lines_from [] s) (
 abbrev pub lines_of : List ℕ → List Line
 lines_of text = lines_from [] text
 
+-- ---- where a reader stands, in numbers
+
+-- phases 0 to 5 await the fixed line of that place, 2 and 5 the wires before it; 6 the first time, 7 the first change at a time, 8 another
+-- change or a later time; 9 has refused
+abbrev pub number_of_phase : Phase → ℕ
+number_of_phase (Header m) = place m
+number_of_phase FirstTime = 6
+number_of_phase FirstChange = 7
+number_of_phase Changes = 8
+number_of_phase Refused = 9
+
+abbrev pub flag : Bool → ℕ
+flag b = cond b 1 0
+
+abbrev pub pins_of : List Channel → List ℕ
+pins_of xs = map (λ (x : Channel). x.pins) xs
+
+abbrev pub changed_of : List Channel → List ℕ
+changed_of xs = map (λ (x : Channel). flag x.changed) xs
+
+pub record Position : Type 0 where
+  pub phase : ℕ
+  pub awaited : ℕ
+  pub now : ℕ
+  pub pins : List ℕ
+  pub changed : List ℕ
+
+abbrev pub position_of : Reader → Position
+position_of r = record { phase = number_of_phase r.phase; awaited = r.awaited; now = r.now; pins = pins_of r.channels; changed = changed_of r.channels }
+
 -- ---- the reader, line by line
 
 -- no encoder has changed at this time
 abbrev pub unchanged : List ℕ
 unchanged = replicate 20 0
 
--- phases 0 to 5 await the fixed line of that number, 2 and 5 the wires before it; 6 the first time, 7 the first change at a time, 8 another
--- change or a later time; 9 has refused
-abbrev pub refused : Reader → Reader
+abbrev pub refused : Position → Position
 refused r = record { phase = 9; awaited = r.awaited; now = r.now; pins = r.pins; changed = r.changed }
 
 -- "an encoder's two pins always together", in order: after an A just its B, else the A of a later encoder
 abbrev pub follows : ℕ → ℕ → Bool
 follows awaited w = cond (eqb (awaited % 2) 1) (eqb w awaited) (eqb (w % 2) 0 && leb awaited w)
 
-abbrev pub fixed_turn : Reader → ℕ → Reader
-fixed_turn r k =
-    cond (eqb r.phase k && (ltb k 6 && eqb (r.awaited % 2) 0))
-    (record { phase = k + 1; awaited = 0; now = r.now; pins = r.pins; changed = r.changed }) (refused r)
+abbrev pub fixed_turn : Position → Mark → Position
+fixed_turn r m =
+    cond (eqb r.phase (place m) && eqb (r.awaited % 2) 0)
+    (record { phase = place m + 1; awaited = 0; now = r.now; pins = r.pins; changed = r.changed }) (refused r)
 
-abbrev pub var_turn : Reader → ℕ → Reader
+abbrev pub var_turn : Position → ℕ → Position
 var_turn r w =
     cond (eqb r.phase 2 && follows r.awaited w)
     (record { phase = 2; awaited = w + 1; now = r.now; pins = set r.pins (w / 2) 4; changed = r.changed }) (refused r)
 
-abbrev pub unknown_turn : Reader → ℕ → Reader
+abbrev pub unknown_turn : Position → ℕ → Position
 unknown_turn r w =
     cond (eqb r.phase 5 && (follows r.awaited w && eqb (get_or r.pins (w / 2) 0) 4))
     (record { phase = 5; awaited = w + 1; now = r.now; pins = r.pins; changed = r.changed }) (refused r)
 
 -- "each time a multiple of 25, .. later than the one before, with a change behind it"
-abbrev pub time_turn : Reader → ℕ → Reader
+abbrev pub time_turn : Position → ℕ → Position
 time_turn r t =
     cond ((eqb r.phase 6 || (eqb r.phase 8 && ltb r.now t)) && (eqb r.awaited 0 && eqb (t % 25) 0))
     (record { phase = 7; awaited = 0; now = t; pins = r.pins; changed = unchanged }) (refused r)
@@ -111,7 +140,7 @@ taken awaited p w b = cond (eqb awaited 0) (cond (eqb p 4) (eqb (w % 2) 0) (ltb 
 abbrev pub pinned : ℕ → ℕ → ℕ → ℕ
 pinned p w b = cond (eqb (w % 2) 0) (2 * (p / 2) + b) (p % 2 + 2 * b)
 
-abbrev pub change_turn : Reader → ℕ → ℕ → Reader
+abbrev pub change_turn : Position → ℕ → ℕ → Position
 change_turn r w b =
     let p = get_or r.pins (w / 2) 0 in
     cond ((eqb r.phase 7 || eqb r.phase 8) && taken r.awaited p w b)
@@ -124,36 +153,36 @@ change_turn r w b =
     })
     (refused r)
 
-unfoldable pub turn_of : Reader → Line → Reader
-turn_of r (Fixed k) = fixed_turn r k
+unfoldable pub turn_of : Position → Line → Position
+turn_of r (Fixed m) = fixed_turn r m
 turn_of r (Var w) = var_turn r w
 turn_of r (Unknown w) = unknown_turn r w
 turn_of r (Time t) = time_turn r t
 turn_of r (Change w b) = change_turn r w b
 turn_of r Other = refused r
 
-abbrev pub opening : Reader
+abbrev pub opening : Position
 opening = record { phase = 0; awaited = 0; now = 0; pins = replicate 20 5; changed = unchanged }
 
 -- ---- what it tells: when a time comes, and at the end, each encoder that has changed
 
-abbrev pub standing : Reader → List Entry
+abbrev pub standing : Position → List Entry
 standing r = entries_at r.now 0 r.pins r.changed
 
-unfoldable pub told_before : Reader → Line → List Entry
-told_before r (Fixed k) = []
+unfoldable pub told_before : Position → Line → List Entry
+told_before r (Fixed m) = []
 told_before r (Var w) = []
 told_before r (Unknown w) = []
 told_before r (Time t) = standing r
 told_before r (Change w b) = []
 told_before r Other = []
 
-unfoldable pub told_from : Reader → List Line → List Entry
+unfoldable pub told_from : Position → List Line → List Entry
 told_from r [] = standing r
 told_from r (l ∷ ls) = told_before r l ++ told_from (turn_of r l) ls
 
 -- the end may come before any time, or after a change
-abbrev pub whole : Reader → Bool
+abbrev pub whole : Position → Bool
 whole r = (eqb r.phase 6 || eqb r.phase 8) && eqb r.awaited 0
 
 pub data Told : Type 0 where

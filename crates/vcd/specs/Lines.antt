@@ -2,12 +2,23 @@
 use Rattle.std.specs.Prelude.{List, [], ◌∷◌, ◌++◌, map, ℕ, ◌+◌, ◌*◌, ◌/◌, ◌%◌, get_or}
 use Rattle.decimal.specs.Ascii.{ascii}
 use Rattle.decimal.specs.Digits.{digits_of}
+use Rattle.vcd.specs.declared.Mark.{Mark}
+use Rattle.vcd.specs.declared.Mark.TheVariants.{Timescale, Scope, Upscope, EndDefinitions, DumpVars, End}
 use Rattle.vcd.specs.declared.Line.{Line}
 use Rattle.vcd.specs.declared.Line.TheVariants.{Fixed, Var, Unknown, Time, Change, Other}
 
 -- the six fixed lines
 unfoldable pub fixed_lines : List (List ℕ)
 fixed_lines = map ascii ("$timescale 1 ns $end" ∷ "$scope module pins $end" ∷ "$upscope $end" ∷ "$enddefinitions $end" ∷ "$dumpvars" ∷ "$end" ∷ [])
+
+-- the place of a fixed line among these
+abbrev pub place : Mark → ℕ
+place Timescale = 0
+place Scope = 1
+place Upscope = 2
+place EndDefinitions = 3
+place DumpVars = 4
+place End = 5
 
 -- "capitals `A` to `T` for bank 0, small letters `a` to `t` for bank 1"
 abbrev pub code_of : ℕ → ℕ
@@ -19,7 +30,7 @@ var_of w = ascii "$var wire 1 " ++ code_of w ∷ ascii " bank" ++ (48 + w / 20) 
 
 -- "xG", "#100", "0G" and "1G"
 unfoldable pub print_of : Line → List ℕ
-print_of (Fixed k) = get_or fixed_lines k []
+print_of (Fixed m) = get_or fixed_lines (place m) []
 print_of (Var w) = var_of w
 print_of (Unknown w) = ascii "x" ++ code_of w ∷ []
 print_of (Time t) = ascii "#" ++ digits_of t

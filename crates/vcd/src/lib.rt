@@ -12,10 +12,22 @@ pub enum Step {
     Pins { encoder: usize, value: u64 },
 }
 
-// A line: one of the six fixed lines, a wire's declaration, its unknown value, a time in ns, a wire's new value, or none of these.
+// One of the six fixed lines of a header, in their order.
+#[derive(Clone, Copy, PartialEq, Eq)]
+pub enum Mark {
+    Timescale,
+    Scope,
+    Upscope,
+    EndDefinitions,
+    DumpVars,
+    End,
+}
+
+// A line: a fixed one, a wire's declaration, its unknown value, a time in ns, a wire's new value, or none of these. A line that is no dump's
+// is a line and no `None`: a reader takes its turn at it too, and refuses.
 #[derive(Clone, Copy)]
 pub enum Line {
-    Fixed(u8),
+    Fixed(Mark),
     Var(usize),
     Unknown(usize),
     Time(u64),
@@ -23,22 +35,36 @@ pub enum Line {
     Other,
 }
 
-// Where a reader stands: its phase; the wire that has to come next, or where it is even the least that may; the time; and for each encoder
-// its pins and whether they changed at this time.
-#[derive(Clone, Copy)]
-pub struct Reader {
-    pub phase: u8,
-    pub awaited: usize,
-    pub now: u64,
-    pub pins: [u8; 20],
-    pub changed: [u8; 20],
+// What a reader awaits.
+#[derive(Clone, Copy, PartialEq, Eq)]
+pub enum Phase {
+    // That fixed line of the header; before Upscope and End the wires' lines.
+    Header(Mark),
+    // The first time, or the end.
+    FirstTime,
+    // The first change at a time.
+    FirstChange,
+    // Another change, a later time or the end.
+    Changes,
+    // Nothing more: it has refused.
+    Refused,
 }
 
-fn small(n: usize) -> u8
-    requires { n < 256 }
-    ensures { result ≡ n }
-{
-    n as u8
+// What a reader knows of an encoder: its pins, and whether they changed at this time. The pins are a number as in `entries_from`: 0 to 3 a value,
+// 4 unknown, 5 no wire.
+#[derive(Clone, Copy)]
+pub struct Channel {
+    pub pins: u8,
+    pub changed: bool,
+}
+
+// Where a reader stands: its phase; the wire that has to come next, or where it is even the least that may; the time; and each encoder.
+#[derive(Clone, Copy)]
+pub struct Reader {
+    pub phase: Phase,
+    pub awaited: usize,
+    pub now: u64,
+    pub channels: [Channel; 20],
 }
 
 // The wire's letter.
@@ -46,22 +72,19 @@ pub fn code(wire: usize) -> u8
     requires { wire < 40 }
     ensures { result ≡ code_of wire }
 {
-    small(65 + wire % 20 + 32 * (wire / 20))
+    (65 + wire % 20 + 32 * (wire / 20)) as u8
 }
 
 // The wire's declaration, without its newline.
+#[tactic(auto, unfolding(crate::specs::Lines::var_of))]
 pub fn var_line(wire: usize) -> [u8; 35]
     requires { wire < 40 }
     ensures { result ≡ var_of wire }
 {
-    let letter = code(wire);
-    let bank = small(48 + wire / 20);
-    let encoder = small(48 + wire / 2 % 10);
-    let pin = small(65 + wire % 2);
     let mut line = *b"$var wire 1 A bank0_encoder0_A $end";
-    line[12] = letter;
-    line[18] = bank;
-    line[27] = encoder;
-    line[29] = pin;
+    line[12] = code(wire);
+    line[18] = b'0' + (wire / 20) as u8;
+    line[27] = b'0' + (wire / 2 % 10) as u8;
+    line[29] = b'A' + (wire % 2) as u8;
     line
 }

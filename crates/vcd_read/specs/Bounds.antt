@@ -4,7 +4,7 @@ use Rattle.vcd.specs.declared.Line.{Line}
 use Rattle.vcd.specs.declared.Line.TheVariants.{Fixed, Var, Unknown, Time, Change, Other}
 
 abbrev pub Bounded : Line → Type 0
-Bounded (Fixed k) = k < 6
+Bounded (Fixed m) = Unit {0}
 Bounded (Var w) = w < 40
 Bounded (Unknown w) = w < 40
 Bounded (Time t) = Unit {0}

@@ -2,116 +2,137 @@
 #![tactic(auto)]
 
 ghost use Rattle.std.specs.Prelude.{◌≡◌, cond, ◌&&◌, ◌+◌, ◌<◌, eqb};
-ghost use Rattle.vcd.specs.How.{refused as refused_of, follows as follows_of, fixed_turn, var_turn, unknown_turn, time_turn, pin_of, taken as taken_of, pinned as pinned_of, change_turn, turn_of, opening as opening_of, whole as whole_of};
+ghost use Rattle.vcd.specs.Lines.{place};
+ghost use Rattle.vcd.specs.How.{number_of_phase, position_of, pins_of, changed_of, unchanged as unchanged_of, refused as refused_of, follows as follows_of, fixed_turn, var_turn, unknown_turn, time_turn, pin_of, taken as taken_of, pinned as pinned_of, change_turn, turn_of, opening as opening_of, whole as whole_of};
 ghost use Rattle.vcd_read.specs.Bounds.{Bounded};
 
-use vcd::{Line, Reader};
+use vcd::{Channel, Line, Mark, Phase, Reader};
 
 pub fn opening() -> Reader
-    ensures { result ≡ opening_of }
+    ensures { position_of result ≡ opening_of }
 {
     Reader {
-        phase: 0,
+        phase: Phase::Header(Mark::Timescale),
         awaited: 0,
         now: 0,
-        pins: [5u8; 20],
-        changed: [0u8; 20],
-    }
-}
-
-fn moved(r: Reader, phase: u8, awaited: usize) -> Reader
-    ensures { result ≡ record { phase = phase; awaited = awaited; now = r.now; pins = r.pins; changed = r.changed } }
-{
-    let pins = r.pins;
-    let changed = r.changed;
-    Reader {
-        phase: phase,
-        awaited: awaited,
-        now: r.now,
-        pins: pins,
-        changed: changed,
+        channels: [Channel {
+            pins: 5,
+            changed: false,
+        }; 20],
     }
 }
 
 fn refused(r: Reader) -> Reader
-    ensures { result ≡ refused_of r }
+    ensures { position_of result ≡ refused_of (position_of r) }
 {
-    moved(r, 9, r.awaited)
+    Reader {
+        phase: Phase::Refused,
+        ..r
+    }
 }
 
+// Whether a wire may come in the header: just the awaited one where it is odd, else the A of an encoder that is not before it.
 fn follows(awaited: usize, wire: usize) -> bool
     ensures { result ≡ follows_of awaited wire }
 {
     if awaited % 2 == 1 {
-        return wire == awaited;
+        wire == awaited
+    } else {
+        wire % 2 == 0 && awaited <= wire
     }
-    (wire % 2 == 0) & (awaited <= wire)
 }
 
-fn fixed_turn(r: Reader, k: u8) -> Reader
-    requires { k < 6 }
-    ensures { result ≡ fixed_turn r k }
+// What comes after a fixed line.
+fn after(mark: Mark) -> Phase
+    ensures { number_of_phase result ≡ place mark + 1 }
 {
-    if (r.phase == k) & (r.awaited % 2 == 0) {
-        return moved(r, k + 1, 0);
+    match mark {
+        Mark::Timescale => Phase::Header(Mark::Scope),
+        Mark::Scope => Phase::Header(Mark::Upscope),
+        Mark::Upscope => Phase::Header(Mark::EndDefinitions),
+        Mark::EndDefinitions => Phase::Header(Mark::DumpVars),
+        Mark::DumpVars => Phase::Header(Mark::End),
+        Mark::End => Phase::FirstTime,
     }
-    refused(r)
+}
+
+fn fixed_turn(r: Reader, mark: Mark) -> Reader
+    ensures { position_of result ≡ fixed_turn (position_of r) mark }
+{
+    if r.phase == Phase::Header(mark) && r.awaited % 2 == 0 {
+        Reader {
+            phase: after(mark),
+            awaited: 0,
+            ..r
+        }
+    } else {
+        refused(r)
+    }
 }
 
 fn var_turn(r: Reader, wire: usize) -> Reader
     requires { wire < 40 }
-    ensures { result ≡ var_turn r wire }
+    ensures { position_of result ≡ var_turn (position_of r) wire }
 {
-    if (r.phase == 2) & follows(r.awaited, wire) {
-        let mut pins = r.pins;
-        let changed = r.changed;
-        pins[wire / 2] = 4;
-        return Reader {
-            phase: 2,
+    if r.phase == Phase::Header(Mark::Upscope) && follows(r.awaited, wire) {
+        let mut channels = r.channels;
+        channels[wire / 2].pins = 4;
+        Reader {
             awaited: wire + 1,
-            now: r.now,
-            pins: pins,
-            changed: changed,
-        };
+            channels,
+            ..r
+        }
+    } else {
+        refused(r)
     }
-    refused(r)
 }
 
 fn unknown_turn(r: Reader, wire: usize) -> Reader
     requires { wire < 40 }
-    ensures { result ≡ unknown_turn r wire }
+    ensures { position_of result ≡ unknown_turn (position_of r) wire }
 {
-    let pins = r.pins;
-    let p = pins[wire / 2];
-    if (r.phase == 5) & (follows(r.awaited, wire) & (p == 4)) {
-        return moved(r, 5, wire + 1);
+    let p = r.channels[wire / 2].pins;
+    if r.phase == Phase::Header(Mark::End) && follows(r.awaited, wire) && p == 4 {
+        Reader {
+            awaited: wire + 1,
+            ..r
+        }
+    } else {
+        refused(r)
     }
-    refused(r)
+}
+
+// The channels at a new time, at which none has changed yet.
+fn unchanged(mut channels: [Channel; 20]) -> [Channel; 20]
+    ensures pins { pins_of result ≡ pins_of channels }
+    ensures changed { changed_of result ≡ unchanged_of }
+{
+    for c in channels.iter_mut() {
+        c.changed = false;
+    }
+    channels
 }
 
 fn time_turn(r: Reader, t: u64) -> Reader
-    ensures { result ≡ time_turn r t }
+    ensures { position_of result ≡ time_turn (position_of r) t }
 {
-    if ((r.phase == 6) | ((r.phase == 8) & (r.now < t))) & ((r.awaited == 0) & (t % 25 == 0)) {
-        let pins = r.pins;
-        return Reader {
-            phase: 7,
+    let later = r.phase == Phase::FirstTime || (r.phase == Phase::Changes && r.now < t);
+    if later && r.awaited == 0 && t % 25 == 0 {
+        Reader {
+            phase: Phase::FirstChange,
             awaited: 0,
             now: t,
-            pins: pins,
-            changed: [0u8; 20],
-        };
+            channels: unchanged(r.channels),
+        }
+    } else {
+        refused(r)
     }
-    refused(r)
 }
 
 fn pin_of(p: u8, wire: usize) -> u8
     ensures { result ≡ pin_of p wire }
 {
-    if wire % 2 == 0 {
-        return p % 2;
-    }
-    p / 2
+    if wire % 2 == 0 { p % 2 } else { p / 2 }
 }
 
 // Whether a change to b of a wire is taken whose encoder has the pins p.
@@ -119,13 +140,12 @@ fn taken(awaited: usize, p: u8, wire: usize, b: u8) -> bool
     ensures { result ≡ taken_of awaited p wire b }
 {
     if awaited != 0 {
-        return wire == awaited;
+        wire == awaited
+    } else if p == 4 {
+        wire % 2 == 0
+    } else {
+        p < 4 && pin_of(p, wire) != b
     }
-    if p == 4 {
-        return wire % 2 == 0;
-    }
-    let old = pin_of(p, wire);
-    (p < 4) & !(old == b)
 }
 
 fn pinned(p: u8, wire: usize, b: u8) -> u8
@@ -133,9 +153,10 @@ fn pinned(p: u8, wire: usize, b: u8) -> u8
     ensures { result ≡ pinned_of p wire b }
 {
     if wire % 2 == 0 {
-        return 2 * (p / 2) + b;
+        2 * (p / 2) + b
+    } else {
+        p % 2 + 2 * b
     }
-    p % 2 + 2 * b
 }
 
 // The wire that has to come next: B of an encoder whose A has just got its first value.
@@ -143,42 +164,42 @@ fn awaits(awaited: usize, p: u8, wire: usize) -> usize
     requires { wire < 40 }
     ensures { result ≡ cond (eqb awaited 0 && eqb p 4) (wire + 1) 0 }
 {
-    if (awaited == 0) & (p == 4) {
-        return wire + 1;
-    }
-    0
+    if awaited == 0 && p == 4 { wire + 1 } else { 0 }
 }
 
 fn change_turn(r: Reader, wire: usize, b: u8) -> Reader
     requires { (wire < 40) × (b < 2) }
-    ensures { result ≡ change_turn r wire b }
+    ensures { position_of result ≡ change_turn (position_of r) wire b }
 {
-    let mut pins = r.pins;
     let e = wire / 2;
-    let p = pins[e];
-    if ((r.phase == 7) | (r.phase == 8)) & taken(r.awaited, p, wire, b) {
-        let mut changed = r.changed;
-        pins[e] = pinned(p, wire, b);
-        changed[e] = 1;
-        return Reader {
-            phase: 8,
-            awaited: awaits(r.awaited, p, wire),
-            now: r.now,
-            pins: pins,
-            changed: changed,
+    let p = r.channels[e].pins;
+    let under_way = matches!(r.phase, Phase::FirstChange | Phase::Changes);
+    if under_way && taken(r.awaited, p, wire, b) {
+        let mut channels = r.channels;
+        channels[e] = Channel {
+            pins: pinned(p, wire, b),
+            changed: true,
         };
+        Reader {
+            phase: Phase::Changes,
+            awaited: awaits(r.awaited, p, wire),
+            channels,
+            ..r
+        }
+    } else {
+        refused(r)
     }
-    refused(r)
 }
 
+#[tactic(auto, unfolding(vcd::specs::How::turn_of))]
 pub fn next(r: Reader, l: Line) -> Reader
     requires { Bounded l }
-    ensures { result ≡ turn_of r l }
+    ensures { position_of result ≡ turn_of (position_of r) l }
 {
     match l {
-        Line::Fixed(k) => fixed_turn(r, k),
-        Line::Var(w) => var_turn(r, w),
-        Line::Unknown(w) => unknown_turn(r, w),
+        Line::Fixed(mark) => fixed_turn(r, mark),
+        Line::Var(wire) => var_turn(r, wire),
+        Line::Unknown(wire) => unknown_turn(r, wire),
         Line::Time(t) => time_turn(r, t),
         Line::Change { wire, bit } => change_turn(r, wire, bit),
         Line::Other => refused(r),
@@ -187,16 +208,13 @@ pub fn next(r: Reader, l: Line) -> Reader
 
 // The end of a text that is cut into lines, or of one that has more behind its last newline, which is no line.
 pub fn ended(r: Reader, cut: bool) -> Reader
-    ensures { result ≡ cond cut r (refused_of r) }
+    ensures { position_of result ≡ cond cut (position_of r) (refused_of (position_of r)) }
 {
-    if cut {
-        return r;
-    }
-    refused(r)
+    if cut { r } else { refused(r) }
 }
 
 pub fn whole(r: Reader) -> bool
-    ensures { result ≡ whole_of r }
+    ensures { result ≡ whole_of (position_of r) }
 {
-    ((r.phase == 6) | (r.phase == 8)) & (r.awaited == 0)
+    matches!(r.phase, Phase::FirstTime | Phase::Changes) && r.awaited == 0
 }

@@ -15,7 +15,7 @@ pub fn put_value(out: &mut [u8], at: usize, value: u8, wire: usize) -> usize
     let letter = vcd::code(wire);
     let first = decimal::put_byte(out, at, value);
     let second = decimal::put_byte(out, first, letter);
-    decimal::put_byte(out, second, 10)
+    decimal::put_byte(out, second, b'\n')
 }
 
 fn put_time(out: &mut [u8], at: usize, time: u64) -> usize
@@ -23,17 +23,14 @@ fn put_time(out: &mut [u8], at: usize, time: u64) -> usize
 {
     let first = decimal::put_byte(out, at, b'#');
     let end = decimal::put(out, first, time);
-    decimal::put_byte(out, end, 10)
+    decimal::put_byte(out, end, b'\n')
 }
 
 // The time, unless it is told already.
 fn put_stamp(out: &mut [u8], at: usize, told: bool, time: u64) -> usize
     ensures { Put out.old at (text_of (cond told [] (Time time ∷ []))) out.new result }
 {
-    if told {
-        return at;
-    }
-    put_time(out, at, time)
+    if told { at } else { put_time(out, at, time) }
 }
 
 // A wire's new value, unless it has it already.
@@ -42,9 +39,10 @@ fn put_change(out: &mut [u8], at: usize, same: bool, wire: usize, bit: u8) -> us
     ensures { Put out.old at (text_of (cond same [] (Change wire bit ∷ []))) out.new result }
 {
     if same {
-        return at;
+        at
+    } else {
+        put_value(out, at, b'0' + bit, wire)
     }
-    put_value(out, at, 48 + bit, wire)
 }
 
 // The pins of an encoder were p, 4 being unknown, and are v.
