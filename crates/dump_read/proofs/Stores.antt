@@ -1,22 +1,22 @@
 -- Entries stored one after the other. Assumes nothing.
 use mathlib.Core.Path.{◌≡◌, refl, sym, ap, ◌∙◌, subst}
-use mathlib.Core.Bool.{cond}
+use mathlib.Core.Bool.{true, false, cond}
 use mathlib.Core.List.{List, [], ◌∷◌, ◌++◌, append_assoc, append-nil, flatten}
 use Prim.Native.Nat.{ℕ, suc, ◌+◌, ◌*◌, ◌/◌, ◌%◌, ◌≤◌, ◌<◌}
 use native.Mathlib.Omega.{arith}
 use native.Mathlib.Nat.{add-zero, add-suc, suc-add, zero-add}
 use native.Mathlib.Numerals.{add-one}
 use lib.Dec.{eqb}
-use lib.ListN.{length, take, get_or, set, replicate, length-append}
+use lib.ListN.{length, take, get_or, set, replicate, length-append, length-map}
 use lib.Seq.{sets, length-sets, take-suc, take_all, length-take-le}
-use borrow.Author.Tests.{ne_eqb}
+use Rattle.std.proofs.lemmas.List.{get_or-map}
 use Rattle.decimal.specs.Put.{Put}
 use Rattle.numbers.specs.Bytes.{le_bytes}
 use Rattle.vcd.specs.declared.Line.{Line}
 use Rattle.vcd.specs.declared.Line.TheVariants.{Fixed, Var, Unknown, Time, Change, Other}
-use Rattle.vcd.specs.declared.Reader.{Reader}
+use Rattle.vcd.specs.declared.Channel.{Channel}
 use Rattle.vcd.specs.Entries.{Entry, entries_at, entry_bytes}
-use Rattle.vcd.specs.How.{turn_of, standing, told_before}
+use Rattle.vcd.specs.How.{Position, flag, pins_of, changed_of, standing, told_before}
 use Rattle.dump_read.specs.How.{bytes_of, Stored}
 
 sets_append : (s t out : List ℕ) (at : ℕ) → sets (sets out at s) (at + length s) t ≡ sets out at (s ++ t)
@@ -57,15 +57,15 @@ pub entry_is : (x : List ℕ) (time e p : ℕ) → x ≡ sets (replicate 16 0) 0
     → set (set (set x 8 (e / 10)) 9 (e % 10)) 10 p ≡ entry_bytes (record { time = time; encoder = e; pins = p })
 entry_is x time e p q = rw q
 
-module _ (time e p c : ℕ) (out : List ℕ) (n : ℕ) where
-  pub entry_none : c ≡ 0 → Stored out n (entries_at time e (p ∷ []) (c ∷ [])) out n
+module _ (time e : ℕ) (x : Channel) (out : List ℕ) (n : ℕ) where
+  pub entry_none : x.changed ≡ false → Stored out n (entries_at time e (x.pins ∷ []) (flag x.changed ∷ [])) out n
   unfolding entries_at
   entry_none q = rw q (stored_none out n)
 
-  pub entry_some : (out' x : List ℕ) (k : ℕ) → (c ≡ 0 → ⊥) → x ≡ entry_bytes (record { time = time; encoder = e; pins = p }) → Put out (16 * n) x out' k
-      → Stored out n (entries_at time e (p ∷ []) (c ∷ [])) out' (n + 1)
+  pub entry_some : (out' y : List ℕ) (k : ℕ) → x.changed ≡ true → y ≡ entry_bytes (record { time = time; encoder = e; pins = x.pins }) → Put out (16 * n) y out' k
+      → Stored out n (entries_at time e (x.pins ∷ []) (flag x.changed ∷ [])) out' (n + 1)
   unfolding entries_at flatten
-  entry_some out' x k q is y = rw (ne_eqb c 0 q) (record { bytes = y.bytes ∙ ap (sets out (16 * n)) (is ∙ sym (append-nil _)); number = refl })
+  entry_some out' y k q is z = rw q (record { bytes = z.bytes ∙ ap (sets out (16 * n)) (is ∙ sym (append-nil _)); number = refl })
 
 -- ---- the encoders in turn
 
@@ -84,56 +84,49 @@ pub standing_none : (time count : ℕ) (out : List ℕ) → Stored out count (en
 unfolding entries_at
 standing_none time count out = stored_none out count
 
-module _ (time count : ℕ) (out mid pins changed : List ℕ) (n e : ℕ) (x : Stored out count (entries_at time 0 (take e pins) (take e changed)) mid n)
-    (l : length pins ≡ 20) (m : length changed ≡ 20) where
-  pub standing_next : (out' : List ℕ) (k p c : ℕ) → e < 20 → p ≡ get_or pins e 0 → c ≡ get_or changed e 0 → Stored mid n (entries_at time e (p ∷ []) (c ∷ [])) out' k
-      → Stored out count (entries_at time 0 (take (e + 1) pins) (take (e + 1) changed)) out' k
-  standing_next out' k p c h i j y =
-      let a = length-take-le e pins (omega arith) in
-      let b = length-take-le e changed (omega arith) in
-      let s = entries_snoc (take e pins) (take e changed) time 0 p c (a ∙ sym b) in
-      let z : 0 + length (take e pins) ≡ e = zero-add (length (take e pins)) ∙ a in
-      rw (add-one e, take-suc pins e 0 (omega arith), take-suc changed e 0 (omega arith), ← i, ← j, s, z)
-      (stored_then out mid out' (entries_at time 0 (take e pins) (take e changed)) (entries_at time e (p ∷ []) (c ∷ [])) count n k x y)
+module _ (time count : ℕ) (out mid : List ℕ) (xs : List Channel) (n e : ℕ)
+    (x : Stored out count (entries_at time 0 (take e (pins_of xs)) (take e (changed_of xs))) mid n) (l : length xs ≡ 20) where
+  long_pins : length (pins_of xs) ≡ 20
+  long_pins = length-map xs (λ (y : Channel). y.pins) ∙ l
 
-  pub standing_done : 20 ≤ e → Stored out count (entries_at time 0 pins changed) mid n
+  long_changed : length (changed_of xs) ≡ 20
+  long_changed = length-map xs (λ (y : Channel). flag y.changed) ∙ l
+
+  pub standing_next : (out' : List ℕ) (k : ℕ) (d : Channel) → e < 20
+      → Stored mid n (entries_at time e ((get_or xs e d).pins ∷ []) (flag (get_or xs e d).changed ∷ [])) out' k
+      → Stored out count (entries_at time 0 (take (e + 1) (pins_of xs)) (take (e + 1) (changed_of xs))) out' k
+  standing_next out' k d h y =
+      let p = get_or-map (λ (z : Channel). z.pins) xs e d 0 (omega arith) in
+      let q = get_or-map (λ (z : Channel). flag z.changed) xs e d 0 (omega arith) in
+      let a = length-take-le e (pins_of xs) (omega (arith, long_pins)) in
+      let b = length-take-le e (changed_of xs) (omega (arith, long_changed)) in
+      let s = entries_snoc (take e (pins_of xs)) (take e (changed_of xs)) time 0 (get_or xs e d).pins (flag (get_or xs e d).changed) (a ∙ sym b) in
+      let z : 0 + length (take e (pins_of xs)) ≡ e = zero-add (length (take e (pins_of xs))) ∙ a in
+      rw (add-one e, take-suc (pins_of xs) e 0 (omega (arith, long_pins)), take-suc (changed_of xs) e 0 (omega (arith, long_changed)), p, q, s, z)
+      (stored_then out mid out' (entries_at time 0 (take e (pins_of xs)) (take e (changed_of xs)))
+      (entries_at time e ((get_or xs e d).pins ∷ []) (flag (get_or xs e d).changed ∷ [])) count n k x y)
+
+  pub standing_done : 20 ≤ e → Stored out count (entries_at time 0 (pins_of xs) (changed_of xs)) mid n
   standing_done h =
-      subst (λ (ps : List ℕ). Stored out count (entries_at time 0 ps changed) mid n) (take_all e pins (omega arith))
-      (subst (λ (cs : List ℕ). Stored out count (entries_at time 0 (take e pins) cs) mid n) (take_all e changed (omega arith)) x)
+      subst (λ (ps : List ℕ). Stored out count (entries_at time 0 ps (changed_of xs)) mid n) (take_all e (pins_of xs) (omega (arith, long_pins)))
+      (subst (λ (cs : List ℕ). Stored out count (entries_at time 0 (take e (pins_of xs)) cs) mid n) (take_all e (changed_of xs) (omega (arith, long_changed))) x)
 
 -- ---- before a line
 
-module _ (r : Reader) (l : Line) (a : List ℕ) (m : ℕ) where
-  quiet : told_before r l ≡ [] → Stored a m (told_before r l) a m
-  quiet e = subst (λ (xs : List Entry). Stored a m xs a m) (sym e) (stored_none a m)
-
-  pub quiet_fixed : (k : ℕ) → l ≡ Fixed k → Stored a m (told_before r l) a m
-  unfolding told_before
-  quiet_fixed k e = quiet (ap (told_before r) e)
-
-  pub quiet_var : (w : ℕ) → l ≡ Var w → Stored a m (told_before r l) a m
-  unfolding told_before
-  quiet_var w e = quiet (ap (told_before r) e)
-
-  pub quiet_unknown : (w : ℕ) → l ≡ Unknown w → Stored a m (told_before r l) a m
-  unfolding told_before
-  quiet_unknown w e = quiet (ap (told_before r) e)
-
-  pub quiet_change : (w v : ℕ) → l ≡ Change w v → Stored a m (told_before r l) a m
-  unfolding told_before
-  quiet_change w v e = quiet (ap (told_before r) e)
-
-  pub quiet_other : l ≡ Other → Stored a m (told_before r l) a m
-  unfolding told_before
-  quiet_other e = quiet (ap (told_before r) e)
-
+module _ (r : Position) (l : Line) (a : List ℕ) (m : ℕ) where
   pub at_time : (b : List ℕ) (n t : ℕ) → l ≡ Time t → Stored a m (standing r) b n → Stored a m (told_before r l) b n
   unfolding told_before
-  at_time b n t e x = subst (λ (xs : List Entry). Stored a m xs b n) (sym (ap (told_before r) e)) x
+  at_time b n t e x = rw e x
 
-  module _ (l' : Line) (e : l ≡ l') (b : List ℕ) (n : ℕ) where
-    pub line_stored : Stored a m (told_before r l) b n → Stored a m (told_before r l') b n
-    line_stored x = subst (λ (k : Line). Stored a m (told_before r k) b n) e x
-
-pub line_turn_lem : (r u : Reader) (l l' : Line) → l ≡ l' → u ≡ turn_of r l → u ≡ turn_of r l'
-line_turn_lem r u l l' e f = f ∙ ap (turn_of r) e
+  -- nothing is told before another line
+  pub quiet : ((t : ℕ) → l ≡ Time t → ⊥) → Stored a m (told_before r l) a m
+  unfolding told_before
+  quiet h = go l h
+    where
+      go : (k : Line) → ((t : ℕ) → k ≡ Time t → ⊥) → Stored a m (told_before r k) a m
+      go (Fixed k) h = stored_none a m
+      go (Var w) h = stored_none a m
+      go (Unknown w) h = stored_none a m
+      go (Time t) h = absurd (h t refl)
+      go (Change w v) h = stored_none a m
+      go Other h = stored_none a m

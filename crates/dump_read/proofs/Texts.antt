@@ -15,10 +15,10 @@ use Rattle.vcd.specs.declared.Line.{Line}
 use Rattle.vcd.specs.declared.Line.TheVariants.{Other}
 use Rattle.vcd.specs.declared.Reader.{Reader}
 use Rattle.vcd.specs.Entries.{Entry}
-use Rattle.vcd.specs.How.{lines_from, lines_of, refused, turn_of, opening, standing, told_before, told_from, whole, entries, refusal, told_by, read_of}
+use Rattle.vcd.specs.How.{Position, position_of, line_of, lines_from, lines_of, refused, turn_of, opening, standing, told_before, told_from, whole, entries, refusal, told_by, read_of}
 use Rattle.dump_read.specs.declared.Scan.{Scan}
 use Rattle.dump_read.specs.Reading.{Answer}
-use Rattle.dump_read.specs.How.{bytes_of, Stored, line_in}
+use Rattle.dump_read.specs.How.{bytes_of, Stored}
 use Rattle.dump_read.proofs.Stores.{bytes_long, stored_none, stored_then, stored_long}
 use Rattle.dump_read.proofs.Answers.{refusing, too_small, reading_all}
 
@@ -42,7 +42,7 @@ module _ (text : List ℕ) (start i : ℕ) (o : start ≤ i) where
     unfolding lines_from
     rest_on n = rw (here, ne_eqb (get_or text i 0) 10 n, longer)
 
-    rest_cut : get_or text i 0 ≡ 10 → rest_of text start i ≡ line_in text start i ∷ rest_of text (i + 1) (i + 1)
+    rest_cut : get_or text i 0 ≡ 10 → rest_of text start i ≡ line_of (take (i - start) (drop start text)) ∷ rest_of text (i + 1) (i + 1)
     unfolding lines_from
     rest_cut e = let z : i + 1 - (i + 1) ≡ 0 = omega arith in rw (here, eq-eqb (get_or text i 0) 10 e, z)
 
@@ -66,18 +66,18 @@ pub record Reading (text out₀ out : List ℕ) (s : Scan) (start i : ℕ) : Typ
   pub so_far : List Entry
   pub order : start ≤ i
   pub within : i ≤ length text
-  pub turned : foldl turn_of opening (lines_of text) ≡ foldl turn_of s.reader (rest_of text start i)
-  pub told : told_from opening (lines_of text) ≡ so_far ++ told_from s.reader (rest_of text start i)
+  pub turned : foldl turn_of opening (lines_of text) ≡ foldl turn_of (position_of s.reader) (rest_of text start i)
+  pub told : told_from opening (lines_of text) ≡ so_far ++ told_from (position_of s.reader) (rest_of text start i)
   pub wrote : Stored out₀ 0 so_far out s.count
   pub near : s.count ≤ 20 * i
 
-pub reading : (text out : List ℕ) (r : Reader) → r ≡ opening → Reading text out out (record { reader = r; count = 0 }) 0 0
+pub reading : (text out : List ℕ) (r : Reader) → position_of r ≡ opening → Reading text out out (record { reader = r; count = 0 }) 0 0
 reading text out r e = record {
   so_far = [];
   order = omega arith;
   within = omega arith;
-  turned = ap (λ (u : Reader). foldl turn_of u (lines_of text)) (sym e);
-  told = ap (λ (u : Reader). told_from u (lines_of text)) (sym e);
+  turned = ap (λ (u : Position). foldl turn_of u (lines_of text)) (sym e);
+  told = ap (λ (u : Position). told_from u (lines_of text)) (sym e);
   wrote = stored_none out 0;
   near = omega arith;
 }
@@ -90,29 +90,29 @@ module _ (text out₀ out : List ℕ) (s : Scan) (start i : ℕ) (g : Reading te
         so_far = g.so_far;
         order = omega (arith, g.order);
         within = omega arith;
-        turned = g.turned ∙ ap (foldl turn_of s.reader) e;
-        told = g.told ∙ ap (λ (ls : List Line). g.so_far ++ told_from s.reader ls) e;
+        turned = g.turned ∙ ap (foldl turn_of (position_of s.reader)) e;
+        told = g.told ∙ ap (λ (ls : List Line). g.so_far ++ told_from (position_of s.reader) ls) e;
         wrote = g.wrote;
         near = omega (arith, g.near);
       }
 
-  pub reads_line : (q : Scan) (out' : List ℕ) → i < length text → get_or text i 0 ≡ 10 → q.reader ≡ turn_of s.reader (line_in text start i)
-      → Stored out s.count (told_before s.reader (line_in text start i)) out' q.count → q.count ≤ s.count + 20 → Reading text out₀ out' q (i + 1) (i + 1)
+  pub reads_line : (q : Scan) (out' : List ℕ) → i < length text → get_or text i 0 ≡ 10 → (position_of q.reader) ≡ turn_of (position_of s.reader) (line_of (take (i - start) (drop start text)))
+      → Stored out s.count (told_before (position_of s.reader) (line_of (take (i - start) (drop start text)))) out' q.count → q.count ≤ s.count + 20 → Reading text out₀ out' q (i + 1) (i + 1)
   unfolding told_from
   reads_line q out' h e f x k =
       let c = rest_cut text start i g.order h e in
-      let l = line_in text start i in
+      let l = line_of (take (i - start) (drop start text)) in
       let rest = rest_of text (i + 1) (i + 1) in
       record {
-        so_far = g.so_far ++ told_before s.reader l;
+        so_far = g.so_far ++ told_before (position_of s.reader) l;
         order = omega arith;
         within = omega arith;
-        turned = g.turned ∙ ap (foldl turn_of s.reader) c ∙ ap (λ (u : Reader). foldl turn_of u rest) (sym f);
+        turned = g.turned ∙ ap (foldl turn_of (position_of s.reader)) c ∙ ap (λ (u : Position). foldl turn_of u rest) (sym f);
         told =
-            g.told ∙ ap (λ (ls : List Line). g.so_far ++ told_from s.reader ls) c
-            ∙ sym (append_assoc g.so_far (told_before s.reader l) (told_from (turn_of s.reader l) rest))
-            ∙ ap (λ (u : Reader). g.so_far ++ told_before s.reader l ++ told_from u rest) (sym f);
-        wrote = stored_then out₀ out out' g.so_far (told_before s.reader l) 0 s.count q.count g.wrote x;
+            g.told ∙ ap (λ (ls : List Line). g.so_far ++ told_from (position_of s.reader) ls) c
+            ∙ sym (append_assoc g.so_far (told_before (position_of s.reader) l) (told_from (turn_of (position_of s.reader) l) rest))
+            ∙ ap (λ (u : Position). g.so_far ++ told_before (position_of s.reader) l ++ told_from u rest) (sym f);
+        wrote = stored_then out₀ out out' g.so_far (told_before (position_of s.reader) l) 0 s.count q.count g.wrote x;
         near = omega (arith, g.near);
       }
 
@@ -120,25 +120,27 @@ module _ (text out₀ out : List ℕ) (s : Scan) (start i : ℕ) (g : Reading te
     last_lines : rest_of text start i ≡ cond (eqb start i) [] (Other ∷ [])
     last_lines = rest_end text start i g.order end g.within
 
-    last_turn : (t : Bool) → foldl turn_of s.reader (cond t [] (Other ∷ [])) ≡ cond t s.reader (refused s.reader)
+    last_turn : (t : Bool) → foldl turn_of (position_of s.reader) (cond t [] (Other ∷ [])) ≡ cond t (position_of s.reader) (refused (position_of s.reader))
     unfolding turn_of
     last_turn true = refl
     last_turn false = refl
 
-    last_told : (t : Bool) → told_from s.reader (cond t [] (Other ∷ [])) ≡ standing s.reader
+    last_told : (t : Bool) → told_from (position_of s.reader) (cond t [] (Other ∷ [])) ≡ standing (position_of s.reader)
     unfolding told_from told_before turn_of
     last_told true = refl
     last_told false = refl
 
-    pub read_turned : (q : Reader) → q ≡ cond (eqb start i) s.reader (refused s.reader) → q ≡ foldl turn_of opening (lines_of text)
-    read_turned q e = e ∙ sym (g.turned ∙ ap (foldl turn_of s.reader) last_lines ∙ last_turn (eqb start i))
+    pub read_turned : (q : Position) → q ≡ cond (eqb start (length text)) (position_of s.reader) (refused (position_of s.reader)) → q ≡ foldl turn_of opening (lines_of text)
+    read_turned q e =
+        let n : length text ≡ i = omega (arith, g.within) in
+        (rw n at e) ∙ sym (g.turned ∙ ap (foldl turn_of (position_of s.reader)) last_lines ∙ last_turn (eqb start i))
 
-    module _ (out' : List ℕ) (count : ℕ) (x : Stored out s.count (standing s.reader) out' count) where
+    module _ (out' : List ℕ) (count : ℕ) (x : Stored out s.count (standing (position_of s.reader)) out' count) where
       pub read_told : Stored out₀ 0 (told_from opening (lines_of text)) out' count
       read_told =
           subst (λ (xs : List Entry). Stored out₀ 0 xs out' count)
-          (sym (g.told ∙ ap (λ (ls : List Line). g.so_far ++ told_from s.reader ls) last_lines ∙ ap (λ (xs : List Entry). g.so_far ++ xs) (last_told (eqb start i))))
-          (stored_then out₀ out out' g.so_far (standing s.reader) 0 s.count count g.wrote x)
+          (sym (g.told ∙ ap (λ (ls : List Line). g.so_far ++ told_from (position_of s.reader) ls) last_lines ∙ ap (λ (xs : List Entry). g.so_far ++ xs) (last_told (eqb start i))))
+          (stored_then out₀ out out' g.so_far (standing (position_of s.reader)) 0 s.count count g.wrote x)
 
       pub read_long : length out' ≡ length out₀
       read_long = stored_long out₀ out' (told_from opening (lines_of text)) 0 count read_told
@@ -150,7 +152,7 @@ module _ (text out : List ℕ) where
   unfolding read_of
   long_answer h = refusing text out (rw (lt-ltb 25207 (length text) h))
 
-  module _ (fits : length text ≤ 25207) (s : Scan) (is : s.reader ≡ foldl turn_of opening (lines_of text)) (t : Bool) (w : t ≡ whole s.reader) where
+  module _ (fits : length text ≤ 25207) (s : Scan) (is : position_of s.reader ≡ foldl turn_of opening (lines_of text)) (t : Bool) (w : t ≡ whole (position_of s.reader)) where
     abbrev xs : List Entry
     xs = told_from opening (lines_of text)
 

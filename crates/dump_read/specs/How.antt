@@ -1,10 +1,8 @@
 -- How the code gets there: entries stored one after the other as far as there is room, and all of them counted. No public promise rests
 -- on this. Assumes nothing.
-use Rattle.std.specs.Prelude.{◌≡◌, ℕ, ◌+◌, ◌-◌, ◌*◌, length, take, drop}
+use Rattle.std.specs.Prelude.{◌≡◌, ℕ, ◌+◌, ◌*◌, length}
 use mathlib.Core.List.{List, map, flatten}
 use Rattle.std.proofs.lemmas.List.Edits.{sets}
-use Rattle.vcd.specs.declared.Line.{Line}
-use Rattle.vcd.specs.How.{line_of}
 use Rattle.vcd.specs.Entries.{Entry, entry_bytes}
 
 abbrev pub bytes_of : List Entry → List ℕ
@@ -13,6 +11,3 @@ bytes_of xs = flatten (map entry_bytes xs)
 pub record Stored (out : List ℕ) (count : ℕ) (xs : List Entry) (out' : List ℕ) (count' : ℕ) : Type 0 where
   pub bytes : out' ≡ sets out (16 * count) (bytes_of xs)
   pub number : count' ≡ count + length xs
-
-abbrev pub line_in : List ℕ → ℕ → ℕ → Line
-line_in text start end = line_of (take (end - start) (drop start text))

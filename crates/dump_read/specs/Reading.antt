@@ -1,9 +1,20 @@
 -- What is answered to a text and left in the output: docs/WAVEFORM.md, "The reader". Assumes nothing.
-use Rattle.std.specs.Prelude.{◌≡◌, ℕ, ◌*◌, ◌≤◌, ◌<◌, length}
+use Rattle.std.specs.Prelude.{◌≡◌, ℕ, ◌*◌, ◌≤◌, ◌<◌, length, Result, Ok, Err}
 use mathlib.Core.List.{List, map, flatten}
 use Rattle.fold.specs.Output.{over}
+use Rattle.refused.specs.declared.Refusal.{Refusal}
+use Rattle.refused.specs.Number.{number}
 use Rattle.vcd.specs.Entries.{Entry, entry_bytes}
 use Rattle.vcd.specs.Reader.{Reads}
+
+-- the refusal's number, 0 for none; how many entries
+abbrev pub refused_of : Result ℕ Refusal → ℕ
+refused_of (Ok n) = 0
+refused_of (Err r) = number r
+
+abbrev pub count_of : Result ℕ Refusal → ℕ
+count_of (Ok n) = n
+count_of (Err r) = 0
 
 pub record Answer (text out : List ℕ) (refused count : ℕ) (out' : List ℕ) : Type 0 where
   -- "bits 8 up: how many entries; 16 bytes each"

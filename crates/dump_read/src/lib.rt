@@ -4,19 +4,12 @@
 ghost use Rattle.std.specs.Prelude.{◌≡◌, ◌+◌, ◌<◌, ◌≤◌, length};
 ghost use mathlib.Core.List.{[], ◌∷◌, foldl};
 ghost use Rattle.vcd.specs.Entries.{entries_at, entry_bytes};
-ghost use Rattle.vcd.specs.How.{lines_of, turn_of, opening, standing, told_before, told_from};
-ghost use Rattle.vcd_read.specs.Bounds.{Bounded};
-ghost use Rattle.dump_read.specs.Reading.{Answer};
-ghost use Rattle.dump_read.specs.How.{Stored, line_in};
+ghost use Rattle.vcd.specs.How.{flag, position_of, line_of, lines_of, turn_of, opening, standing, told_before, told_from};
+ghost use Rattle.dump_read.specs.Reading.{Answer, refused_of, count_of};
+ghost use Rattle.dump_read.specs.How.{Stored};
 
-use vcd::{Line, Reader};
-
-// The refusal, 0 for none, and how many entries.
-#[derive(Clone, Copy)]
-pub struct Entries {
-    pub refused: u8,
-    pub count: usize,
-}
+use refused::Refusal;
+use vcd::{Channel, Line, Reader};
 
 // Where the reader of a text ends, and how many entries there were.
 #[derive(Clone, Copy)]
@@ -40,138 +33,97 @@ fn entry(time: u64, e: usize, p: u8) -> [u8; 16]
 }
 
 // The entry of encoder e, if it has changed.
-fn put_entry(time: u64, e: usize, p: u8, changed: u8, out: &mut [u8], count: usize) -> usize
+fn put_entry(time: u64, e: usize, channel: Channel, out: &mut [u8], count: usize) -> usize
     requires { (e < 20) × (count < 4294967296) }
-    ensures stored { Stored out.old count (entries_at time e (p ∷ []) (changed ∷ [])) out.new result }
+    ensures stored { Stored out.old count (entries_at time e (channel.pins ∷ []) (flag channel.changed ∷ [])) out.new result }
     ensures upper_bound { result ≤ count + 1 }
 {
-    if changed == 0 {
-        return count;
+    if channel.changed {
+        let x = entry(time, e, channel.pins);
+        let _place = text::put_word(out, 16 * count, &x);
+        count + 1
+    } else {
+        count
     }
-    let x = entry(time, e, p);
-    let _place = text::put_word(out, 16 * count, &x);
-    count + 1
 }
 
 fn put_standing(r: Reader, out: &mut [u8], count: usize) -> usize
     requires { count < 2147483648 }
-    ensures stored { Stored out.old count (standing r) out.new result }
+    ensures stored { Stored out.old count (standing (position_of r)) out.new result }
     ensures upper_bound { result ≤ count + 20 }
 {
-    let pins = r.pins;
-    let changed = r.changed;
     let mut n = count;
-    let mut e: usize = 0;
-    while e < 20 {
-        n = put_entry(r.now, e, pins[e], changed[e], out, n);
-        e += 1;
+    for e in 0..20 {
+        n = put_entry(r.now, e, r.channels[e], out, n);
     }
     n
 }
 
+// What a line ends is told: at a time what changed at the time before.
 fn put_before(r: Reader, l: Line, out: &mut [u8], count: usize) -> usize
     requires { count < 2147483648 }
-    ensures stored { Stored out.old count (told_before r l) out.new result }
+    ensures stored { Stored out.old count (told_before (position_of r) l) out.new result }
     ensures upper_bound { result ≤ count + 20 }
 {
     match l {
-        Line::Fixed(_) => count,
-        Line::Var(_) => count,
-        Line::Unknown(_) => count,
         Line::Time(_) => put_standing(r, out, count),
-        Line::Change { wire: _, bit: _ } => count,
-        Line::Other => count,
+        _ => count,
     }
 }
 
 // ---- the text
 
-fn line_in(text: &[u8], start: usize, end: usize) -> Line
-    requires { (start ≤ end) × (end ≤ length text.now) }
-    ensures value { result ≡ line_in text.now start end }
-    ensures bounded { Bounded result }
+// A line is read: what it ends is told, and the reader takes its turn.
+fn take_line(s: Scan, line: &[u8], out: &mut [u8]) -> Scan
+    requires { s.count < 2147483648 }
+    ensures reader_value { position_of result.reader ≡ turn_of (position_of s.reader) (line_of line.now) }
+    ensures stored { Stored out.old s.count (told_before (position_of s.reader) (line_of line.now)) out.new result.count }
+    ensures count_bound { result.count ≤ s.count + 20 }
 {
-    vcd_read::read_line(&text[start..end])
-}
-
-// The line from start to end is read: what it ends is told, and the reader takes its turn.
-fn take_line(s: Scan, text: &[u8], start: usize, end: usize, out: &mut [u8]) -> Scan
-    requires start_le_end { (start ≤ end) × (end ≤ length text.now) }
-    requires count_bound { s.count < 2147483648 }
-    ensures reader_value { result.reader ≡ turn_of s.reader (line_in text.now start end) }
-    ensures stored { Stored out.old s.count (told_before s.reader (line_in text.now start end)) out.new result.count }
-    ensures count_bound_2 { result.count ≤ s.count + 20 }
-{
-    let r = s.reader;
-    let l = line_in(text, start, end);
-    let count = put_before(r, l, out, s.count);
-    let q = vcd_turn::next(r, l);
+    let l = vcd_read::read_line(line);
     Scan {
-        reader: q,
-        count: count,
+        count: put_before(s.reader, l, out, s.count),
+        reader: vcd_turn::next(s.reader, l),
     }
 }
 
 fn read_text(text: &[u8], out: &mut [u8]) -> Scan
     requires { length text.now ≤ 25207 }
-    ensures reader_value { result.reader ≡ foldl turn_of opening (lines_of text.now) }
+    ensures reader_value { position_of result.reader ≡ foldl turn_of opening (lines_of text.now) }
     ensures stored { Stored out.old 0 (told_from opening (lines_of text.now)) out.new result.count }
     ensures count_bound { result.count ≤ 504160 }
 {
-    let r = vcd_turn::opening();
     let mut s = Scan {
-        reader: r,
+        reader: vcd_turn::opening(),
         count: 0,
     };
-    let mut start: usize = 0;
-    let mut i: usize = 0;
-    while i < text.len() {
-        if text[i] != 10 {
-            i += 1;
-            continue;
+    let mut start = 0;
+    for i in 0..text.len() {
+        if text[i] == b'\n' {
+            s = take_line(s, &text[start..i], out);
+            start = i + 1;
         }
-        s = take_line(s, text, start, i, out);
-        i += 1;
-        start = i;
     }
-    let r = s.reader;
-    let count = put_standing(r, out, s.count);
-    let q = vcd_turn::ended(r, start == i);
     Scan {
-        reader: q,
-        count: count,
+        count: put_standing(s.reader, out, s.count),
+        reader: vcd_turn::ended(s.reader, start == text.len()),
     }
 }
 
 // The first pass over the text stores nothing, so that a refusal writes nothing.
-pub fn dump_read(text: &[u8], out: &mut [u8]) -> Entries
-    ensures answer { Answer text.now out.old result.refused result.count out.new }
-    ensures count_bound { result.count ≤ 504160 }
+pub fn dump_read(text: &[u8], out: &mut [u8]) -> Result<usize, Refusal>
+    ensures answer { Answer text.now out.old (refused_of result) (count_of result) out.new }
+    ensures count_bound { count_of result ≤ 504160 }
 {
     if text.len() > 25207 {
-        return Entries {
-            refused: 20,
-            count: 0,
-        };
+        return Err(Refusal::NoDump);
     }
-    let mut none = [0u8; 1];
-    let s = read_text(text, &mut none);
-    let r = s.reader;
-    if !vcd_turn::whole(r) {
-        return Entries {
-            refused: 20,
-            count: 0,
-        };
+    let s = read_text(text, &mut []);
+    if !vcd_turn::whole(s.reader) {
+        return Err(Refusal::NoDump);
     }
     if out.len() / 16 < s.count {
-        return Entries {
-            refused: 6,
-            count: 0,
-        };
+        return Err(Refusal::OutputTooShort);
     }
-    let e = read_text(text, out);
-    Entries {
-        refused: 0,
-        count: e.count,
-    }
+    Ok(read_text(text, out).count)
 }
