@@ -2,9 +2,9 @@
 use mathlib.Core.Path.{◌≡◌, refl, sym, ap, ◌∙◌, subst}
 use mathlib.Core.Bool.{Bool, false, ◌&&◌, ◌||◌, not}
 use mathlib.Core.List.{List, [], ◌∷◌, ◌++◌, foldl, map, append_assoc, append-nil}
-use Prim.Native.Nat.{ℕ, ◌+◌, ◌-◌, ◌*◌, ◌^◌, ◌≤◌, ◌<◌}
+use Prim.Native.Nat.{ℕ, ◌+◌, ◌-◌, ◌*◌, ◌/◌, ◌^◌, ◌≤◌, ◌<◌}
 use native.Mathlib.Omega.{arith}
-use native.Mathlib.Nat.{mul-le-mul_right}
+use native.Mathlib.Nat.{mul-le-mul_right, zero-add}
 use lib.Dec.{eqb}
 use mir.Syntax.{w8, w64}
 use mir.Val.{Fits}
@@ -22,25 +22,28 @@ use Rattle.vcd.proofs.Bound.{text_append, in_time}
 use Rattle.dump.specs.Dump.{seen_of}
 use Rattle.dump.specs.How.{steps_in, Ready}
 
-module _ (log : List ℕ) (start n : ℕ) where
+module _ (bytes : List ℕ) where
+  abbrev n : ℕ
+  n = length bytes / 16
+
   -- the steps from the ith on
   pub rest_of : ℕ → List Step
-  rest_of i = map seen_of (between (placed 16 start log) i (n - i))
+  rest_of i = map seen_of (between (placed 16 0 bytes) i (n - i))
 
-  all_rest : rest_of 0 ≡ steps_in log start n
+  all_rest : rest_of 0 ≡ steps_in bytes
   unfolding rest_of
-  all_rest = rw (places_all (placed 16 start log) n, records_placed 16 start n log)
+  all_rest = rw (places_all (placed 16 0 bytes) n, records_placed 16 0 n bytes)
 
-  rest_next : (i : ℕ) → i < n → rest_of i ≡ seen_of (take 16 (drop (start + 16 * i) log)) ∷ rest_of (i + 1)
+  rest_next : (i : ℕ) → i < n → rest_of i ≡ seen_of (take 16 (drop (16 * i) bytes)) ∷ rest_of (i + 1)
   unfolding rest_of
-  rest_next i h = ap (map seen_of) (places_next (placed 16 start log) n i h)
+  rest_next i h = let z : 0 + 16 * i ≡ 16 * i = zero-add (16 * i) in ap (map seen_of) (places_next (placed 16 0 bytes) n i h) ∙ rw z
 
   rest_end : (i : ℕ) → n ≤ i → rest_of i ≡ []
   unfolding rest_of
-  rest_end i h = ap (map seen_of) (places_end (placed 16 start log) n i h)
+  rest_end i h = ap (map seen_of) (places_end (placed 16 0 bytes) n i h)
 
-  pub rest_step : (i : ℕ) (s : Step) → i < n → s ≡ seen_of (take 16 (drop (start + 16 * i) log)) → rest_of i ≡ s ∷ rest_of (i + 1)
-  rest_step i s h e = rest_next i h ∙ ap (λ (x : Step). x ∷ rest_of (i + 1)) (sym e)
+  pub rest_step : (i : ℕ) (s : Step) → i < n → s ≡ seen_of (take (16 * i + 16 - 16 * i) (drop (16 * i) bytes)) → rest_of i ≡ s ∷ rest_of (i + 1)
+  rest_step i s h e = let z : 16 * i + 16 - 16 * i ≡ 16 = omega arith in rest_next i h ∙ ap (λ (x : Step). x ∷ rest_of (i + 1)) (sym (rw z at e))
 
   -- ---- the first pass
 
@@ -49,20 +52,17 @@ module _ (log : List ℕ) (start n : ℕ) where
     pub long : length pins ≡ 20
     pub time : ℕ
     pub good : Good (2 ^ 48) time (rest_of i)
-    pub left : start_of (steps_in log start n) ≡ foldl declared pins (rest_of i)
+    pub left : start_of (steps_in bytes) ≡ foldl declared pins (rest_of i)
 
-  module _ (ready : Ready log start n) where
+  module _ (ready : Ready bytes) where
     pub marking : Marking (replicate 20 5) 0
     marking = record { within = omega arith; long = refl; time = 0; good = subst (Good (2 ^ 48) 0) (sym all_rest) ready.good; left = ap (foldl declared (replicate 20 5)) (sym all_rest) }
 
-    pub a_record : (i : ℕ) → i < n → start + 16 * i + 16 ≤ length log
-    a_record i h = omega (arith, ready.within)
-
   module _ (pins : List ℕ) (i : ℕ) (m : Marking pins i) where
-    pub all_marked : n ≤ i → pins ≡ start_of (steps_in log start n)
+    pub all_marked : n ≤ i → pins ≡ start_of (steps_in bytes)
     all_marked h = sym (m.left ∙ ap (foldl declared pins) (rest_end i h))
 
-    module _ (s : Step) (h : i < n) (is : s ≡ seen_of (take 16 (drop (start + 16 * i) log))) where
+    module _ (s : Step) (h : i < n) (is : s ≡ seen_of (take (16 * i + 16 - 16 * i) (drop (16 * i) bytes))) where
       goods : (x : Step) → s ≡ x → Good (2 ^ 48) m.time (x ∷ rest_of (i + 1))
       goods x q = subst (Good (2 ^ 48) m.time) (rest_step i s h is ∙ ap (λ (y : Step). y ∷ rest_of (i + 1)) q) m.good
 
@@ -102,17 +102,17 @@ module _ (log : List ℕ) (start n : ℕ) where
     pub good : Good (2 ^ 48) time (rest_of i)
     pub there : There pins (rest_of i)
     pub wrote : Put out₀ from (text_of lines) out at
-    pub left : body_from false 0 unknown (steps_in log start n) ≡ lines ++ body_from told time pins (rest_of i)
+    pub left : body_from false 0 unknown (steps_in bytes) ≡ lines ++ body_from told time pins (rest_of i)
 
   module _ (unknown out₀ : List ℕ) (from : ℕ) where
-    pub begins : Ready log start n → unknown ≡ start_of (steps_in log start n) → Going unknown out₀ from out₀ unknown 0 false from 0
+    pub begins : Ready bytes → unknown ≡ start_of (steps_in bytes) → Going unknown out₀ from out₀ unknown 0 false from 0
     unfolding text_of
     begins ready e = record {
       lines = [];
       within = omega arith;
-      long = ap length e ∙ long_start (steps_in log start n);
+      long = ap length e ∙ long_start (steps_in bytes);
       good = subst (Good (2 ^ 48) 0) (sym all_rest) ready.good;
-      there = rw (e, all_rest) (there_start (steps_in log start n) (2 ^ 48) 0 ready.good);
+      there = rw (e, all_rest) (there_start (steps_in bytes) (2 ^ 48) 0 ready.good);
       wrote = put_nothing out₀ from;
       left = ap (body_from false 0 unknown) (sym all_rest);
     }
@@ -121,11 +121,11 @@ module _ (log : List ℕ) (start n : ℕ) where
       pub same_long : length out ≡ length out₀
       same_long = put_long out₀ out (text_of g.lines) from at g.wrote
 
-      pub ends : n ≤ i → Put out₀ from (text_of (body_from false 0 unknown (steps_in log start n))) out at
+      pub ends : n ≤ i → Put out₀ from (text_of (body_from false 0 unknown (steps_in bytes))) out at
       unfolding body_from
       ends h = subst (λ (ls : List Line). Put out₀ from (text_of ls) out at) (sym (g.left ∙ ap (λ (ss : List Step). g.lines ++ body_from told time pins ss) (rest_end i h) ∙ append-nil g.lines)) g.wrote
 
-      module _ (s : Step) (h : i < n) (is : s ≡ seen_of (take 16 (drop (start + 16 * i) log))) where
+      module _ (s : Step) (h : i < n) (is : s ≡ seen_of (take (16 * i + 16 - 16 * i) (drop (16 * i) bytes))) where
         good_now : (x : Step) → s ≡ x → Good (2 ^ 48) time (x ∷ rest_of (i + 1))
         good_now x q = subst (Good (2 ^ 48) time) (rest_step i s h is ∙ ap (λ (y : Step). y ∷ rest_of (i + 1)) q) g.good
 

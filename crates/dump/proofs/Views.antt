@@ -1,24 +1,21 @@
--- A record as the dump sees it: where it lies in the log, and what wire's decoding names. This file alone looks into wire's records.
+-- A record as the dump sees it: what wire's decoding names. This file alone looks into wire's records.
 -- Assumes nothing.
-use mathlib.Core.Path.{◌≡◌, refl, ap, ◌∙◌}
+use mathlib.Core.Path.{◌≡◌, refl, ap}
 use mathlib.Core.List.{List, ◌∷◌, map}
 use mathlib.Core.Bool.{true, false, false≢true}
-use Prim.Native.Nat.{ℕ, zero, suc, ◌+◌, ◌*◌, ◌^◌, ◌≤◌, ◌<◌}
+use Prim.Native.Nat.{ℕ, ◌+◌, ◌*◌, ◌^◌, ◌<◌}
 use native.Mathlib.Omega.{arith}
-use native.Mathlib.Nat.{add-zero, add-suc}
-use lib.ListN.{length, take, drop}
-use lib.Seq.{get_or-take, get_or-drop}
+use lib.ListN.{length}
 use lib.Dec.{eqb}
-use borrow.Author.Tests.{eq-eqb, ne_eqb}
 use Rattle.fold.specs.Turn.{applies}
 use Rattle.fold.specs.Run.{going}
 use Rattle.fold.proofs.Runs.{every_going}
-use Rattle.numbers.specs.Bytes.{byte, le_of}
+use Rattle.numbers.specs.Bytes.{byte}
 use Rattle.edition.specs.declared.Edition.{Edition}
 use Rattle.wire.specs.Decode.{bank_of, decode_of}
 use Rattle.records.specs.declared.Record.{Record}
 use Rattle.records.specs.declared.Record.TheVariants.{WriteSelect, WriteEncoder, WritePwm, WriteI2c, Answer, ReadSelect, ReadEncoder, ReadPwm, ReadI2c, Pins, Ticks}
-use Rattle.records.specs.declared.Decoded.TheVariants.{Names}
+use Rattle.std.specs.Prelude.{Ok}
 use Rattle.wire.proofs.Formed.{Formed, formed, bank_formed}
 use Rattle.banks.specs.declared.State.{State}
 use Rattle.banks.specs.State.{fresh}
@@ -30,32 +27,6 @@ use Rattle.vcd.specs.declared.Step.TheVariants.{Wait, Pins as Seen}
 use Rattle.vcd.specs.Dump.{Good}
 use Rattle.dump.specs.Dump.{seen_of}
 
--- ---- where it lies
-
-module _ (s : List ℕ) (at : ℕ) where
-  byte_at : (i : ℕ) → i < 16 → byte (take 16 (drop at s)) i ≡ byte s (at + i)
-  byte_at i h = get_or-take 16 (drop at s) i 0 h ∙ get_or-drop at s i 0
-
-  le_at : (n i : ℕ) → i + n ≤ 16 → le_of n (take 16 (drop at s)) i ≡ le_of n s (at + i)
-  unfolding le_of
-  le_at zero i h = refl
-  le_at (suc n) i h = rw (byte_at i (omega arith), le_at n (suc i) (omega arith), add-suc at i)
-
-  first : byte (take 16 (drop at s)) 0 ≡ byte s at
-  first = byte_at 0 (omega arith) ∙ ap (byte s) (add-zero at)
-
-  pub pins_at : (b c v : ℕ) → byte s at ≡ 3 → b ≡ byte s (at + 4) → c ≡ byte s (at + 2) → v ≡ le_of 8 s (at + 8) → Seen (10 * b + c) v ≡ seen_of (take 16 (drop at s))
-  unfolding seen_of
-  pins_at b c v k p q r = rw (first, eq-eqb (byte s at) 3 k, byte_at 4 (omega arith), byte_at 2 (omega arith), le_at 8 8 (omega arith), ← p, ← q, ← r)
-
-  pub ticks_at : (v : ℕ) → (byte s at ≡ 3 → ⊥) → byte s at ≡ 4 → v ≡ le_of 8 s (at + 8) → Wait v ≡ seen_of (take 16 (drop at s))
-  unfolding seen_of
-  ticks_at v n k r = rw (first, ne_eqb (byte s at) 3 n, eq-eqb (byte s at) 4 k, le_at 8 8 (omega arith), ← r)
-
-  pub none_at : (byte s at ≡ 3 → ⊥) → (byte s at ≡ 4 → ⊥) → Wait 0 ≡ seen_of (take 16 (drop at s))
-  unfolding seen_of
-  none_at n m = rw (first, ne_eqb (byte s at) 3 n, ne_eqb (byte s at) 4 m)
-
 -- ---- what is decoded
 
 abbrev GoodStep : Step → Type 0
@@ -63,11 +34,11 @@ GoodStep (Wait t) = t < 2 ^ 32
 GoodStep (Seen e v) = (e < 20) × (v < 4)
 
 module _ (o : Edition) (s : List ℕ) where
-  pub seen_pins : (i v : ℕ) → decode_of o s ≡ Names (Pins i v) → seen_of s ≡ Seen (10 * bank_of s + i) v
+  pub seen_pins : (i v : ℕ) → decode_of o s ≡ Ok (Pins i v) → seen_of s ≡ Seen (10 * bank_of s + i) v
   unfolding seen_of
   seen_pins i v e = let f = (formed o s (Pins i v) e).0 in rw (f.is_kind, f.is_channel) (ap (Seen (10 * bank_of s + i)) f.value)
 
-  pub seen_ticks : (t : ℕ) → decode_of o s ≡ Names (Ticks t) → seen_of s ≡ Wait t
+  pub seen_ticks : (t : ℕ) → decode_of o s ≡ Ok (Ticks t) → seen_of s ≡ Wait t
   unfolding seen_of
   seen_ticks t e = let f = (formed o s (Ticks t) e).0 in rw f.is_kind (ap Wait f.value)
 
@@ -75,7 +46,7 @@ module _ (o : Edition) (s : List ℕ) where
   unfolding seen_of
   other k e n m = rw (e, n, m) (omega arith)
 
-  good : (r : Record) → decode_of o s ≡ Names r → Formed s r → GoodStep (seen_of s)
+  good : (r : Record) → decode_of o s ≡ Ok r → Formed s r → GoodStep (seen_of s)
   good (WriteSelect v) e f = other 1 f.0.is_kind refl refl
   good (WriteEncoder i v) e f = other 1 f.0.is_kind refl refl
   good (WritePwm i g v) e f = other 1 f.0.is_kind refl refl

@@ -1,6 +1,6 @@
 -- The header's lines put one after the other. Assumes nothing.
-use mathlib.Core.Path.{◌≡◌, sym, ap, ◌∙◌}
-use mathlib.Core.Bool.{Bool, true, false, cond}
+use mathlib.Core.Path.{◌≡◌, refl, subst, sym, ap, ◌∙◌}
+use mathlib.Core.Bool.{cond}
 use mathlib.Core.List.{List, [], ◌∷◌, ◌++◌, append_assoc}
 use Prim.Native.Nat.{ℕ, suc, ◌+◌, ◌*◌, ◌≤◌, ◌<◌}
 use native.Mathlib.Omega.{arith}
@@ -12,12 +12,12 @@ use lib.Seq.{take-suc, take_all, length-take-le}
 use borrow.Author.Tests.{eq-eqb, ne_eqb}
 use Rattle.decimal.specs.Put.{Put}
 use Rattle.decimal.proofs.Puts.{put_nothing, put_then}
+use Rattle.vcd.specs.declared.Mark.TheVariants.{Timescale, Scope, Upscope, EndDefinitions, DumpVars, End}
 use Rattle.vcd.specs.declared.Line.{Line}
 use Rattle.vcd.specs.declared.Line.TheVariants.{Fixed, Var, Unknown}
 use Rattle.vcd.specs.Lines.{code_of, var_of, print_of, text_of}
 use Rattle.vcd.specs.Dump.{wires_from, header_of}
 use Rattle.vcd_write.proofs.Lines.{lines_then}
-use Rattle.vcd_header.specs.How.{wire_line}
 
 -- ---- one line
 
@@ -29,14 +29,6 @@ module _ (out out' : List ℕ) (at r w : ℕ) where
   pub unknown_put : Put out at (120 ∷ code_of w ∷ 10 ∷ []) out' r → Put out at (text_of (Unknown w ∷ [])) out' r
   unfolding text_of print_of
   unknown_put x = x
-
-  pub wire_declared : (t : Bool) → t ≡ true → Put out at (text_of (Var w ∷ [])) out' r → Put out at (text_of (wire_line t w ∷ [])) out' r
-  unfolding wire_line
-  wire_declared t e x = rw e x
-
-  pub wire_unknown : (t : Bool) → t ≡ false → Put out at (text_of (Unknown w ∷ [])) out' r → Put out at (text_of (wire_line t w ∷ [])) out' r
-  unfolding wire_line
-  wire_unknown t e x = rw e x
 
 -- ---- the wires
 
@@ -73,14 +65,24 @@ module _ (line : ℕ → Line) (out mid pins : List ℕ) (at end e : ℕ) where
   pub wires_done : Put out at (text_of (wires_from line 0 (take e pins))) mid end → length pins ≡ 20 → 20 ≤ e → Put out at (text_of (wires_from line 0 pins)) mid end
   wires_done y l h = rw (take_all e pins (omega arith)) at y
 
+-- one encoder more, with no wire or with two
+module _ (line : ℕ → Line) (out mid pins : List ℕ) (at end e : ℕ) (so_far : Put out at (text_of (wires_from line 0 (take e pins))) mid end) (long : length pins ≡ 20) (h : e < 20) where
+  pub encoder_none : get_or pins e 0 ≡ 5 → Put out at (text_of (wires_from line 0 (take (e + 1) pins))) mid end
+  encoder_none q = wires_next line out mid pins at end e mid end (get_or pins e 0) so_far long h refl (no_wire line mid end e (get_or pins e 0) q)
+
+  pub encoder_two : (a b : Line) (next out' : List ℕ) (k r : ℕ) → (get_or pins e 0 ≡ 5 → ⊥) → a ≡ line (2 * e) → b ≡ line (2 * e + 1)
+      → Put mid end (text_of (a ∷ [])) next k → Put next k (text_of (b ∷ [])) out' r → Put out at (text_of (wires_from line 0 (take (e + 1) pins))) out' r
+  encoder_two a b next out' k r n i j y z =
+      wires_next line out mid pins at end e out' r (get_or pins e 0) so_far long h refl
+      (two_wires line mid end e (get_or pins e 0) next out' k r n (subst (λ (l : Line). Put mid end (text_of (l ∷ [])) next k) i y) (subst (λ (l : Line). Put next k (text_of (l ∷ [])) out' r) j z))
+
 -- ---- the header's parts
 
-module _ (pins o a b c d e : List ℕ) (p q r s t : ℕ) (u : Put o 0 (text_of (Fixed 0 ∷ Fixed 1 ∷ [])) a p) (v : Put a p (text_of (wires_from (wire_line true) 0 pins)) b q)
-    (w : Put b q (text_of (Fixed 2 ∷ Fixed 3 ∷ Fixed 4 ∷ [])) c r) (x : Put c r (text_of (wires_from (wire_line false) 0 pins)) d s) (y : Put d s (text_of (Fixed 5 ∷ [])) e t) where
+module _ (pins o a b c d e : List ℕ) (p q r s t : ℕ) (u : Put o 0 (text_of (Fixed Timescale ∷ Fixed Scope ∷ [])) a p) (v : Put a p (text_of (wires_from Var 0 pins)) b q)
+    (w : Put b q (text_of (Fixed Upscope ∷ Fixed EndDefinitions ∷ Fixed DumpVars ∷ [])) c r) (x : Put c r (text_of (wires_from Unknown 0 pins)) d s) (y : Put d s (text_of (Fixed End ∷ [])) e t) where
   pub header_put : Put o 0 (text_of (header_of pins pins)) e t
-  unfolding wire_line
   header_put =
-      lines_then o a e (Fixed 0 ∷ Fixed 1 ∷ []) (wires_from Var 0 pins ++ Fixed 2 ∷ Fixed 3 ∷ Fixed 4 ∷ (wires_from Unknown 0 pins ++ Fixed 5 ∷ [])) 0 p t u
-      (lines_then a b e (wires_from Var 0 pins) (Fixed 2 ∷ Fixed 3 ∷ Fixed 4 ∷ (wires_from Unknown 0 pins ++ Fixed 5 ∷ [])) p q t v
-      (lines_then b c e (Fixed 2 ∷ Fixed 3 ∷ Fixed 4 ∷ []) (wires_from Unknown 0 pins ++ Fixed 5 ∷ []) q r t w
-      (lines_then c d e (wires_from Unknown 0 pins) (Fixed 5 ∷ []) r s t x y)))
+      lines_then o a e (Fixed Timescale ∷ Fixed Scope ∷ []) (wires_from Var 0 pins ++ Fixed Upscope ∷ Fixed EndDefinitions ∷ Fixed DumpVars ∷ (wires_from Unknown 0 pins ++ Fixed End ∷ [])) 0 p t u
+      (lines_then a b e (wires_from Var 0 pins) (Fixed Upscope ∷ Fixed EndDefinitions ∷ Fixed DumpVars ∷ (wires_from Unknown 0 pins ++ Fixed End ∷ [])) p q t v
+      (lines_then b c e (Fixed Upscope ∷ Fixed EndDefinitions ∷ Fixed DumpVars ∷ []) (wires_from Unknown 0 pins ++ Fixed End ∷ []) q r t w
+      (lines_then c d e (wires_from Unknown 0 pins) (Fixed End ∷ []) r s t x y)))

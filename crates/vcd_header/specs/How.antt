@@ -1,9 +1,13 @@
--- How the code gets there: one loop for both kinds of line that name each wire. No public promise rests on this.
+-- How the code gets there: the lines that name a wire of an encoder. No public promise rests on this.
 -- Assumes nothing.
-use Rattle.std.specs.Prelude.{Bool, true, false, ℕ}
+use Rattle.std.specs.Prelude.{◌<◌}
 use Rattle.vcd.specs.declared.Line.{Line}
-use Rattle.vcd.specs.declared.Line.TheVariants.{Var, Unknown}
+use Rattle.vcd.specs.declared.Line.TheVariants.{Fixed, Var, Unknown, Time, Change, Other}
 
-unfoldable pub wire_line : Bool → ℕ → Line
-wire_line true w = Var w
-wire_line false w = Unknown w
+abbrev pub NamesWire : Line → Type 0
+NamesWire (Fixed m) = ⊥
+NamesWire (Var w) = w < 40
+NamesWire (Unknown w) = w < 40
+NamesWire (Time t) = ⊥
+NamesWire (Change w b) = ⊥
+NamesWire Other = ⊥
