@@ -5,7 +5,8 @@ use Rattle.decimal.specs.Ascii.{ascii}
 use Rattle.outside.specs.Counts.{IsPrefixLen}
 use Rattle.decimal.specs.Put.{Put}
 use Rattle.decimal.proofs.Puts.{put_nothing, put_then, put_long}
-use Rattle.fold.specs.Output.{number_of, stop_of}
+use Rattle.refused.specs.Number.{number_of}
+use Rattle.fold.specs.Output.{refusal_of, stop_of}
 use Rattle.fold.specs.declared.Stop.{Stop}
 use Rattle.replay.specs.Replay.{replay_of}
 use Rattle.form.specs.Form.{form_text}
@@ -75,13 +76,14 @@ module _ (log entries text₀ : List ℕ) (n : ℕ) (text : List ℕ) (end i : �
 -- ---- the last line
 
 module _ (log : List ℕ) (stop : Stop) (is : stop ≡ stop_of (replay_of log 16_384)) where
-  pub stop_said : (text text' : List ℕ) (at r : ℕ) → Put text at (form_text (ascii "applied " ++ 35 ∷ 32 ∷ ascii "refused " ++ 35 ∷ 10 ∷ []) (stop.applied ∷ stop.refused ∷ [])) text' r → Put text at (end_text log) text' r
+  pub stop_said : (n : ℕ) → n ≡ number_of stop.refused → (text text' : List ℕ) (at r : ℕ)
+      → Put text at (form_text (ascii "applied " ++ 35 ∷ 32 ∷ ascii "refused " ++ 35 ∷ 10 ∷ []) (stop.applied ∷ n ∷ [])) text' r → Put text at (end_text log) text' r
   unfolding end_text stop_of
-  stop_said text text' at r x = rw is at (rw (stop_line stop.applied stop.refused) at x)
+  stop_said n e text text' at r x = rw is at (rw e at (rw (stop_line stop.applied n) at x))
 
-  pub stop_short : stop.applied < 2 ^ 64 → stop.refused < 2 ^ 64 → length (end_text log) ≤ 58
+  pub stop_short : stop.applied < 2 ^ 64 → number_of stop.refused < 2 ^ 64 → length (end_text log) ≤ 58
   unfolding end_text stop_of
-  stop_short p q = let t = replay_of log 16_384 in stop_long t.applied (number_of t.course) (rw is at p) (rw is at q)
+  stop_short p q = let t = replay_of log 16_384 in stop_long t.applied (number_of (refusal_of t.course)) (rw is at p) (rw is at q)
 
 pub text_long : (log : List ℕ) → length (end_text log) ≤ 58 → length (sign_text log) ≤ 298_920
 unfolding stretches_text

@@ -1,5 +1,5 @@
 -- The pieces of a stretch's line, and the last line. Assumes nothing.
-use Rattle.std.proofs.Common.{◌≡◌, ℕ, zero, suc, ◌+◌, ◌-◌, ◌*◌, ◌/◌, ◌%◌, ◌<◌, ◌≤◌, List, [], ◌∷◌, ◌++◌, take, drop, nat_abs, refl, append_assoc, arith, le-ltb, lt-ltb}
+use Rattle.std.proofs.Common.{Bool, true, false, ltb, negsuc, ap, ◌≡◌, ℕ, suc, ◌+◌, ◌-◌, ◌*◌, ◌/◌, ◌%◌, ◌<◌, List, [], ◌∷◌, ◌++◌, nat_abs, refl, append_assoc, arith, ne_eqb}
 use Rattle.decimal.specs.Ascii.{ascii}
 use Rattle.decimal.specs.Digits.{digits_of}
 use Rattle.decimal.specs.Put.{Put}
@@ -7,47 +7,44 @@ use Rattle.decimal.proofs.Puts.{put_then}
 use Rattle.form.specs.Form.{plural_of, form_text}
 use Rattle.text.specs.Text.{line, stop_text}
 use Rattle.numbers.specs.Bytes.{le_of}
-use Rattle.sign_print.specs.How.{whole_of, stretch_form, numbers_of, verdict_words, words_at, numbered_text, spelt, spelt_at}
+use Rattle.std.specs.Int.{cast_signed}
+use mir.Syntax.{w64}
+use Rattle.sign_print.specs.How.{whole_of, stretch_form, numbers_of, numbered_text, spelt, spelt_at}
 
-module _ (n : ℕ) where
-  pub size_up : n < 9223372036854775808 → n ≡ nat_abs (whole_of n)
-  unfolding whole_of
-  size_up h = rw (lt-ltb n 9223372036854775808 h)
-
-  pub size_down : 9223372036854775808 ≤ n → 18446744073709551615 - n + 1 ≡ nat_abs (whole_of n)
-  unfolding whole_of
-  size_down h = rw (le-ltb n 9223372036854775808 h) (omega arith)
+pub whole_is : (n : ℕ) → n < 18446744073709551616 → cast_signed w64 n ≡ whole_of n
+unfolding whole_of
+whole_is n h = by (ltb n 9223372036854775808) refl
+  where
+    by : (t : Bool) → ltb n 9223372036854775808 ≡ t → cast_signed w64 n ≡ whole_of n
+    by true e = rw e
+    by false e =
+        let same : 18446744073709551616 - suc n ≡ 18446744073709551615 - n = omega (arith, h) in
+        rw e (ap negsuc same)
 
 -- ---- the verdict
 
 grouped : (a b c d e f : List ℕ) → a ++ (b ++ (c ++ (d ++ (e ++ f)))) ≡ a ++ (b ++ (c ++ d)) ++ e ++ f
 grouped a b c d e f = simp append_assoc
 
-worded : (v size d n : ℕ) → v < 4 → n ≡ 2 * d + 1 - size → form_text (take (words_at (v + 1) - words_at v) (drop (words_at v) verdict_words)) (n ∷ n ∷ []) ≡ line (numbered_text v size d)
-unfolding form_text numbered_text
-worded zero size d n h e = rw (← e) (grouped (ascii ": open, ") (digits_of n) (ascii " step") (plural_of n) (ascii " short of a direction") (10 ∷ []))
-worded (suc zero) size d n h e = refl
-worded (suc (suc zero)) size d n h e = refl
-worded (suc (suc (suc zero))) size d n h e = refl
-worded (suc (suc (suc (suc v)))) size d n h e = absurd (omega arith)
+module _ (a b : List ℕ) (p q v size d : ℕ) where
+  pub verdict_forward : v ≡ 1 → Put a p (ascii ": forward" ++ 10 ∷ []) b q → Put a p (line (numbered_text v size d)) b q
+  unfolding numbered_text
+  verdict_forward e x = rw e x
 
-in_order : (v : ℕ) → v < 4 → (words_at v ≤ words_at (v + 1)) × (words_at (v + 1) ≤ 66)
-in_order zero h = (omega arith, omega arith)
-in_order (suc zero) h = (omega arith, omega arith)
-in_order (suc (suc zero)) h = (omega arith, omega arith)
-in_order (suc (suc (suc zero))) h = (omega arith, omega arith)
-in_order (suc (suc (suc (suc v)))) h = absurd (omega arith)
+  pub verdict_backward : v ≡ 2 → Put a p (ascii ": backward" ++ 10 ∷ []) b q → Put a p (line (numbered_text v size d)) b q
+  unfolding numbered_text
+  verdict_backward e x = rw e x
 
-module _ (v from to : ℕ) (h : v < 4) (f : from ≡ words_at v) (t : to ≡ words_at (v + 1)) where
-  pub words_start : from ≤ to
-  words_start = omega (arith, (in_order v h).0)
+  pub verdict_still : v ≡ 3 → Put a p (ascii ": still" ++ 10 ∷ []) b q → Put a p (line (numbered_text v size d)) b q
+  unfolding numbered_text
+  verdict_still e x = rw e x
 
-  pub words_end : to ≤ 66
-  words_end = omega (arith, (in_order v h).1)
-
-  pub verdict_put : (a b : List ℕ) (p q size d n : ℕ) → n ≡ 2 * d + 1 - size → Put a p (form_text (take (to - from) (drop from verdict_words)) (n ∷ n ∷ [])) b q
+  pub verdict_open : (v ≡ 1 → ⊥) → (v ≡ 2 → ⊥) → (v ≡ 3 → ⊥) → (n : ℕ) → n ≡ 2 * d + 1 - size
+      → Put a p (form_text (ascii ": open, " ++ 35 ∷ ascii " step" ++ 126 ∷ ascii " short of a direction" ++ 10 ∷ []) (n ∷ n ∷ [])) b q
       → Put a p (line (numbered_text v size d)) b q
-  verdict_put a b p q size d n e x = rw (← worded v size d n h e, ← f, ← t) x
+  unfolding form_text numbered_text
+  verdict_open f g h n e x =
+      rw (ne_eqb v 1 f, ne_eqb v 2 g, ne_eqb v 3 h, ← e) (rw (grouped (ascii ": open, ") (digits_of n) (ascii " step") (plural_of n) (ascii " short of a direction") (10 ∷ [])) at x)
 
 -- ---- a stretch
 

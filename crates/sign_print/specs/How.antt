@@ -1,7 +1,7 @@
 -- How the code gets there: a stretch's line as a form that is filled in by numbers, and these from the four numbers of its entry. No public
 -- promise rests on this.
 -- Assumes nothing.
-use Rattle.std.specs.Prelude.{◌≡◌, ℕ, ◌+◌, ◌-◌, ◌*◌, ◌/◌, ◌%◌, ◌<◌, ◌≤◌, cond, List, [], ◌∷◌, ◌++◌, length, ℤ, pos, negsuc, ◌==◌, nat_lt, slice_index, unsigned_abs}
+use Rattle.std.specs.Prelude.{◌≡◌, ℕ, ◌+◌, ◌-◌, ◌*◌, ◌/◌, ◌%◌, ◌<◌, ◌≤◌, cond, List, [], ◌∷◌, ◌++◌, length, ℤ, pos, negsuc, ◌==◌, nat_lt, unsigned_abs}
 use Rattle.decimal.specs.Ascii.{ascii}
 use Rattle.form.specs.Form.{form_text}
 use Rattle.text.specs.Text.{line}
@@ -32,13 +32,7 @@ numbers_of names span steps d =
     numbers_by (names % 256) (names / 256 % 256) (names / 4294967296) (span % 4294967296) (span / 4294967296) steps d
     ((steps + 18446744073709551616 - 2 * d) % 18446744073709551616) ((steps + 2 * d) % 18446744073709551616)
 
--- "0 open, 1 forward, 2 backward, 3 still": the words in this order, and where each of them starts
-abbrev pub verdict_words : List ℕ
-verdict_words = ascii ": open, " ++ 35 ∷ ascii " step" ++ 126 ∷ ascii " short of a direction" ++ 10 ∷ ascii ": forward" ++ 10 ∷ ascii ": backward" ++ 10 ∷ ascii ": still" ++ 10 ∷ []
-
-abbrev pub words_at : ℕ → ℕ
-words_at v = slice_index (0 ∷ 37 ∷ 47 ∷ 58 ∷ 66 ∷ []) v
-
+-- "0 open, 1 forward, 2 backward, 3 still"
 unfoldable pub numbered_text : ℕ → ℕ → ℕ → List ℕ
 numbered_text v size d =
     cond (v == 1) (ascii ": forward") (cond (v == 2) (ascii ": backward") (cond (v == 3) (ascii ": still") (ascii ": open, " ++ counted (2 * d + 1 - size) (ascii " step") ++ ascii " short of a direction")))

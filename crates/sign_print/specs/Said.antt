@@ -6,7 +6,8 @@ use Rattle.std.specs.Prelude.{ℕ, zero, suc, ◌+◌, ◌-◌, ◌*◌, cond, L
 use mathlib.Core.List.{flatten}
 use Rattle.decimal.specs.Ascii.{ascii}
 use Rattle.decimal.specs.Digits.{digits_of}
-use Rattle.fold.specs.Output.{number_of}
+use Rattle.refused.specs.Number.{number_of}
+use Rattle.fold.specs.Output.{refusal_of}
 use Rattle.replay.specs.Replay.{replayed}
 use Rattle.shaft.specs.Shaft.{forward, backward, still}
 use Rattle.text.specs.Text.{line, stop_text}
@@ -55,7 +56,7 @@ unfoldable pub stretches_text : List ℕ → List ℕ
 stretches_text log = flatten (map stretch_text (stretches_of log))
 
 unfoldable pub end_text : List ℕ → List ℕ
-end_text log = let x = replayed log in stop_text x.applied (number_of x.course)
+end_text log = let x = replayed log in stop_text x.applied (number_of (refusal_of x.course))
 
 abbrev pub sign_text : List ℕ → List ℕ
 sign_text log = stretches_text log ++ end_text log

@@ -2,86 +2,77 @@
 // buffer and written at once.
 #![tactic(auto)]
 
-ghost use Rattle.std.specs.Prelude.{◌≡◌, ◌+◌, ◌-◌, ◌*◌, ◌<◌, ◌≤◌, length, unsigned_abs};
+ghost use Rattle.std.specs.Prelude.{◌≡◌, ◌<◌, ◌≤◌, length, unsigned_abs};
 ghost use Rattle.outside.specs.Counts.{IsPrefixLen};
 ghost use Rattle.decimal.specs.Put.{Put};
-ghost use Rattle.fold.specs.Output.{stop_of};
-ghost use Rattle.replay.specs.Replay.{replay_of};
+ghost use Rattle.refused.specs.Number.{number_of};
 ghost use Rattle.text.specs.Text.{line};
 ghost use Rattle.sign_print.specs.Said.{stretches_text, end_text, sign_text};
-ghost use Rattle.sign_print.specs.How.{whole_of, words_at, numbered_text, numbers_of, spelt, spelt_at, There, Entries};
+ghost use Rattle.sign_print.specs.How.{whole_of, numbered_text, numbers_of, spelt, spelt_at, There, Entries};
 
-use fold::Stop;
+use refused::Refusal;
 use std::io::Input;
-use std::num::{wrapping_add_u64, wrapping_sub_u64};
 
-// ---- numbers
+// The four numbers of an entry: bank, encoder, verdict and first record; last record and how many pins; steps; double changes.
+#[derive(Clone, Copy)]
+struct Numbers {
+    names: u64,
+    span: u64,
+    steps: u64,
+    doubles: u64,
+}
 
 // The size of a two's complement number.
+#[tactic(auto, using(crate::proofs::Words::whole_is))]
 fn size(n: u64) -> u64
     ensures { result ≡ unsigned_abs (whole_of n) }
 {
-    if n < 9223372036854775808 {
-        return n;
-    }
-    18446744073709551615 - n + 1
-}
-
-// By how many the steps are short of more than 2d.
-fn short(size: u64, doubles: u64) -> u64
-    requires { doubles < 4096 }
-    ensures { result ≡ 2 * doubles + 1 - size }
-{
-    if 2 * doubles < size {
-        return 0;
-    }
-    2 * doubles + 1 - size
+    n.cast_signed().unsigned_abs()
 }
 
 // ---- a stretch
 
-// Where the words of each verdict start, in the order of their numbers: open, forward, backward, still.
-const WORDS: [usize; 5] = [0, 37, 47, 58, 66];
-
-fn words_at(verdict: usize) -> usize
-    requires { verdict < 5 }
-    ensures { result ≡ words_at verdict }
-{
-    WORDS[verdict]
-}
-
+// The words of a verdict by its number: 0 open, by how many steps it is short of more than 2d; 1 forward, 2 backward, 3 still.
 fn put_verdict(text: &mut [u8], at: usize, verdict: u64, size: u64, doubles: u64) -> usize
-    requires { (verdict < 4) × (doubles < 4096) }
+    requires { doubles < 4096 }
     ensures { Put text.old at (line (numbered_text verdict size doubles)) text.new result }
 {
-    let words: &[u8] = b": open, # step~ short of a direction\n: forward\n: backward\n: still\n";
-    let from = words_at(verdict as usize);
-    let to = words_at((verdict as usize) + 1);
-    let n = short(size, doubles);
-    let numbers = [n, n];
-    form::put_form(text, at, &words[from..to], &numbers)
+    match verdict {
+        1 => text::put_word(text, at, b": forward\n"),
+        2 => text::put_word(text, at, b": backward\n"),
+        3 => text::put_word(text, at, b": still\n"),
+        _ => {
+            let short = (2 * doubles + 1).saturating_sub(size);
+            form::put_form(
+                text,
+                at,
+                b": open, # step~ short of a direction\n",
+                &[short, short],
+            )
+        }
+    }
 }
 
-fn line_numbers(names: u64, span: u64, steps: u64, doubles: u64) -> [u64; 15]
-    requires { doubles < 4096 }
-    ensures { result ≡ numbers_of names span steps doubles }
+fn line_numbers(x: Numbers) -> [u64; 15]
+    requires { x.doubles < 4096 }
+    ensures { result ≡ numbers_of x.names x.span x.steps x.doubles }
 {
-    let pins = span / 4294967296;
-    let moved = size(steps);
-    let least = wrapping_sub_u64(steps, 2 * doubles);
-    let most = wrapping_add_u64(steps, 2 * doubles);
+    let pins = x.span / 4294967296;
+    let moved = size(x.steps);
+    let least = x.steps.wrapping_sub(2 * x.doubles);
+    let most = x.steps.wrapping_add(2 * x.doubles);
     [
-        names % 256,
-        names / 256 % 256,
-        names / 4294967296,
-        span % 4294967296,
+        x.names % 256,
+        x.names / 256 % 256,
+        x.names / 4294967296,
+        x.span % 4294967296,
         pins,
         pins,
-        steps,
+        x.steps,
         moved,
         moved,
-        doubles,
-        doubles,
+        x.doubles,
+        x.doubles,
         least,
         size(least),
         most,
@@ -89,31 +80,33 @@ fn line_numbers(names: u64, span: u64, steps: u64, doubles: u64) -> [u64; 15]
     ]
 }
 
-// A stretch's line from the four numbers of its entry.
-fn put_stretch(text: &mut [u8], at: usize, names: u64, span: u64, steps: u64, doubles: u64) -> usize
-    requires { doubles < 4096 }
-    ensures { Put text.old at (spelt names span steps doubles) text.new result }
+// A stretch's line.
+fn put_stretch(text: &mut [u8], at: usize, x: Numbers) -> usize
+    requires { x.doubles < 4096 }
+    ensures { Put text.old at (spelt x.names x.span x.steps x.doubles) text.new result }
 {
-    let numbers = line_numbers(names, span, steps, doubles);
+    let numbers = line_numbers(x);
     let end = form::put_form(
         text,
         at,
         b"bank # encoder #: records # to #, # pin~, ^# step~, # double change~, travel ^# to ^#",
         &numbers,
     );
-    put_verdict(text, end, names / 65536 % 4, size(steps), doubles)
+    put_verdict(text, end, x.names / 65536 % 4, size(x.steps), x.doubles)
 }
 
-// The same of the entry at a place.
+// The line of the entry at a place.
 fn put_entry(text: &mut [u8], at: usize, entries: &[u8], from: usize) -> usize
     requires { There entries.now from }
     ensures { Put text.old at (spelt_at entries.now from) text.new result }
 {
-    let names = numbers::le64(entries, from);
-    let span = numbers::le64(entries, from + 8);
-    let steps = numbers::le64(entries, from + 16);
-    let doubles = numbers::le64(entries, from + 24);
-    put_stretch(text, at, names, span, steps, doubles)
+    let x = Numbers {
+        names: numbers::le64(entries, from),
+        span: numbers::le64(entries, from + 8),
+        steps: numbers::le64(entries, from + 16),
+        doubles: numbers::le64(entries, from + 24),
+    };
+    put_stretch(text, at, x)
 }
 
 // ---- a log
@@ -123,29 +116,28 @@ fn put_stretches(text: &mut [u8], log: &[u8], entries: &[u8], n: usize) -> usize
     requires { Entries log.now entries.now n }
     ensures { Put text.old 0 (stretches_text log.now) text.new result }
 {
-    let mut end: usize = 0;
-    let mut i: usize = 0;
-    while i < n {
+    let mut end = 0;
+    for i in 0..n {
         end = put_entry(text, end, entries, 32 * i);
-        i += 1;
     }
     end
 }
 
-// What the replay says, with room for each reading.
-fn replayed(log: &[u8]) -> Stop
-    ensures { result ≡ stop_of (replay_of log.now 16_384) }
+fn number(refused: Option<Refusal>) -> u64
+    ensures { result ≡ number_of refused }
 {
-    let mut readings = [0u8; 16384];
-    replay::replay(log, &mut readings)
+    match refused {
+        Some(refusal) => u64::from(refusal.number()),
+        None => 0,
+    }
 }
 
 fn put_stop(text: &mut [u8], at: usize, log: &[u8]) -> usize
     ensures put { Put text.old at (end_text log.now) text.new result }
     ensures log_len_bound { length (end_text log.now) ≤ 58 }
 {
-    let stop = replayed(log);
-    let numbers = [stop.applied as u64, stop.refused as u64];
+    let stop = sign::replayed(log);
+    let numbers = [stop.applied as u64, number(stop.refused)];
     form::put_form(text, at, b"applied # refused #\n", &numbers)
 }
 
