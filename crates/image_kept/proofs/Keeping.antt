@@ -12,7 +12,10 @@ use borrow.Author.Tests.{eqb-true, eqb-false, le-leb, ne_eqb}
 use Rattle.laws.proofs.Each.{length_each, each_keeps, set_keeps, fresh_keeps}
 use Rattle.fold.specs.Turn.{Turn, goes, refused, leaves}
 use Rattle.fold.specs.Run.{Course, going, stopped, run_of}
-use Rattle.fold.specs.Output.{number_of}
+use Rattle.refused.specs.Number.{number, number_of}
+use Rattle.refused.specs.declared.Refusal.{Refusal}
+use Rattle.std.proofs.Common.{Result, Ok, Err}
+use Rattle.fold.specs.Output as output
 use Rattle.fold.proofs.Laws.{keeps, stopped_by}
 use Rattle.edition.specs.declared.Edition.{Edition}
 use Rattle.wire.specs.Decode.{bank_of}
@@ -29,7 +32,8 @@ use Rattle.bank.specs.declared.Bank.{Bank}
 use Rattle.bank.specs.Bank as bank
 use Rattle.bank.specs.Bank.{encoder_at, with_encoder, pwm_at, with_pwm, with_i2c, reroute, tick_routed}
 use Rattle.refusals.specs.How.{refusal_of}
-use Rattle.bank.proofs.Turns.{passing, Number, turn_passes, turn_refused, turn_number}
+use Rattle.walk.proofs.Numbers.{Number, run_number}
+use Rattle.bank.proofs.Turns.{passing, turn_passes, turn_refused, turn_number}
 use Rattle.banks.specs.declared.State.{State}
 use Rattle.banks.specs.State.{fresh, bank_at, with_bank}
 use Rattle.banks.proofs.Whole.{Both, holds_first, holds_one, holds_both}
@@ -87,11 +91,11 @@ passes e b s (ReadPwm i g) m f = f
 passes e b s (ReadI2c g) m f = f
 
 bank_kept : (e : Edition) (b : Bank) (s : List ℕ) (r : Record) → Formed s r → FitsBank b → FitsBank (leaves b (bank.turn_of e b r))
-bank_kept e b s r m f = by (eqb (refusal_of e b.select b.i2c r) 0) refl
+bank_kept e b s r m f = by (refusal_of e b.select b.i2c r) refl
   where
-    by : (t : Bool) → eqb (refusal_of e b.select b.i2c r) 0 ≡ t → FitsBank (leaves b (bank.turn_of e b r))
-    by true p = subst (λ (x : Turn Bank ℕ). FitsBank (leaves b x)) (sym (turn_passes e b r (eqb-true _ _ p))) (passes e b s r m f)
-    by false p = subst (λ (x : Turn Bank ℕ). FitsBank (leaves b x)) (sym (turn_refused e b r (eqb-false _ _ p))) f
+    by : (d : Result (Unit {0}) Refusal) → refusal_of e b.select b.i2c r ≡ d → FitsBank (leaves b (bank.turn_of e b r))
+    by (Ok u) p = subst (λ (x : Turn Bank ℕ). FitsBank (leaves b x)) (sym (turn_passes e b r p)) (passes e b s r m f)
+    by (Err k) p = subst (λ (x : Turn Bank ℕ). FitsBank (leaves b x)) (sym (turn_refused e b r k p)) f
 
 bank_first : FitsBank bank.fresh
 unfolding bank.fresh
@@ -129,27 +133,14 @@ run_kept e s rs f = keeps (turn_of e) FitsState (λ t r. turn_kept e t r) s rs f
 by_range : (n : ℕ) → 6 < n → n < 12 → is_refusal n ≡ true
 by_range n h k = rw (ne_eqb n 0 (λ x. omega arith), le-leb 7 n (omega arith), le-leb n 11 (omega arith))
 
-by_number : (n : ℕ) → Number n → is_refusal n ≡ true
-by_number n (inl p) = by_range n (omega (arith, p.0)) p.1
-by_number n (inr (inl e)) = rw e
-by_number n (inr (inr e)) = rw e
+by_number : (k : Refusal) → Number k → is_refusal (number k) ≡ true
+by_number k (inl p) = by_range (number k) p.0 p.1
+by_number k (inr (inl e)) = rw e
+by_number k (inr (inr e)) = rw e
 
-turn_number_is : (e : Edition) (s : State) (bytes : List ℕ) (n : ℕ) → turn_of e s bytes ≡ refused n → is_refusal n ≡ true
-turn_number_is e s bytes n =
-    by_turn e s bytes (λ t. t ≡ refused n → is_refusal n ≡ true)
-    (λ k x h.
-    let same : k ≡ n = cc in
-    let r = refused_by_lem e bytes k x in
-    subst (λ (m : ℕ). is_refusal m ≡ true) same (by_range k r.0 (omega (arith, r.1))))
-    (λ r x k h. by_number n (absurd (never _ n h)))
-    (λ r x k h. by_number n (turn_number e (bank_at (bank_of bytes) s) r n (lift_refused (with_bank (bank_of bytes) s) (bank.turn_of e (bank_at (bank_of bytes) s) r) n h)))
-  where
-    never : (t : State) (m : ℕ) → ◌≡◌ {A = Turn State ℕ} (goes t) (refused m) → ⊥
-    never t m h = let z : ◌≡◌ {A = ℕ} 0 1 = cc in omega arith
-
-by_course : (c : Course) → ((k : ℕ) → c ≡ stopped k → is_refusal k ≡ true) → is_refusal (number_of c) ≡ true
+by_course : (c : Course) → ((k : Refusal) → c ≡ stopped k → is_refusal (number k) ≡ true) → is_refusal (number_of (output.refusal_of c)) ≡ true
 by_course going h = refl
 by_course (stopped k) h = h k refl
 
-pub run_refusal : (e : Edition) (s : State) (rs : List (List ℕ)) → is_refusal (number_of (run_of (turn_of e) s rs).course) ≡ true
-run_refusal e s rs = by_course (run_of (turn_of e) s rs).course (stopped_by (turn_of e) (λ (k : ℕ). is_refusal k ≡ true) (turn_number_is e) s rs)
+pub run_refusal : (e : Edition) (s : State) (rs : List (List ℕ)) → is_refusal (number_of (output.refusal_of (run_of (turn_of e) s rs).course)) ≡ true
+run_refusal e s rs = by_course (run_of (turn_of e) s rs).course (λ k h. by_number k (run_number e s rs k h))

@@ -8,6 +8,8 @@ use native.Mathlib.Omega.{arith}
 use lib.Dec.{eqb}
 use lib.ListN.{get_or}
 use borrow.Author.Tests.{eqb-true, eqb-false}
+use Rattle.std.proofs.Common.{Result, Ok, Err}
+use Rattle.refused.specs.declared.Refusal.{Refusal}
 use Rattle.fold.specs.Turn.{Turn, given}
 use Rattle.fold.specs.Run.{run_of}
 use Rattle.fold.proofs.Turns.{lift_given}
@@ -24,8 +26,6 @@ use Rattle.encoder_count.proofs.Wrap.{pattern_lt}
 use Rattle.pwm.specs.declared.Pwm.{Pwm}
 use Rattle.pwm.specs.Pwm as pwm
 use Rattle.bits.specs.Bits.{num}
-use Rattle.i2c_code.specs.declared.Phase.{Phase}
-use Rattle.i2c_code.specs.declared.Phase.TheVariants.{Idle, TxIdle, RxIdle}
 use Rattle.i2c.specs.declared.I2c.{I2c}
 use Rattle.i2c.specs.I2c as i2c
 use Rattle.bank.specs.declared.Bank.{Bank}
@@ -36,6 +36,7 @@ use Rattle.banks.specs.declared.State.{State}
 use Rattle.banks.specs.State.{bank_at, with_bank}
 use Rattle.walk.specs.Turn.{turn_of}
 use Rattle.walk.proofs.Replaying.{by_turn}
+use Rattle.image_words.proofs.Numbers.{state_small, failure_small}
 use Rattle.image_words.specs.Words.{FitsI2c, FitsEncoder}
 use Rattle.image_pwm.specs.Words.{FitsPwm}
 use Rattle.image_pwm.proofs.Numbers.{cnfg_small}
@@ -65,19 +66,14 @@ pwm_small (suc (suc (suc zero))) p f = omega (arith, f.1)
 pwm_small (suc (suc (suc (suc zero)))) p f = omega (arith, f.4)
 pwm_small (suc (suc (suc (suc (suc register))))) p f = num_small p.wave.output
 
-state_small : (p : Phase) → i2c.state_of p < 2 ^ 64
-state_small Idle = omega arith
-state_small TxIdle = omega arith
-state_small RxIdle = omega arith
-
 i2c_small : (register : ℕ) (c : I2c) → FitsI2c c → i2c.register_of register c < 2 ^ 64
 i2c_small register c f = by (eqb register 0) (eqb register 1) (eqb register 3)
   where
-    by : (a b d : Bool) → cond a c.addr (cond b c.cntl (cond d (i2c.state_of c.phase) c.failure)) < 2 ^ 64
+    by : (a b d : Bool) → cond a c.addr (cond b c.cntl (cond d (i2c.state_of c.phase) (i2c.failure_number c.failure))) < 2 ^ 64
     by true b d = omega (arith, f.0)
     by false true d = omega (arith, f.1)
-    by false false true = state_small c.phase
-    by false false false = omega (arith, f.3)
+    by false false true = omega (arith, state_small c.phase)
+    by false false false = omega (arith, failure_small c.failure)
 
 -- ---- one record: each number of a list is below 2^64
 
@@ -110,11 +106,11 @@ passes e b (Answer v) f = none
 passes e b (Ticks t) f = none
 
 bank_small : (e : Edition) (b : Bank) (r : Record) → FitsBank b → Small (given (bank.turn_of e b r))
-bank_small e b r f = by (eqb (refusal_of e b.select b.i2c r) 0) refl
+bank_small e b r f = by (refusal_of e b.select b.i2c r) refl
   where
-    by : (t : Bool) → eqb (refusal_of e b.select b.i2c r) 0 ≡ t → Small (given (bank.turn_of e b r))
-    by true p = subst (λ (x : Turn Bank ℕ). Small (given x)) (sym (turn_passes e b r (eqb-true _ _ p))) (passes e b r f)
-    by false p = subst (λ (x : Turn Bank ℕ). Small (given x)) (sym (turn_refused e b r (eqb-false _ _ p))) none
+    by : (d : Result (Unit {0}) Refusal) → refusal_of e b.select b.i2c r ≡ d → Small (given (bank.turn_of e b r))
+    by (Ok u) p = subst (λ (x : Turn Bank ℕ). Small (given x)) (sym (turn_passes e b r p)) (passes e b r f)
+    by (Err k) p = subst (λ (x : Turn Bank ℕ). Small (given x)) (sym (turn_refused e b r k p)) none
 
 turn_small : (e : Edition) (s : State) (bytes : List ℕ) → FitsState s → Small (given (turn_of e s bytes))
 turn_small e s bytes f =

@@ -12,7 +12,9 @@ use Rattle.edition.specs.declared.Edition.{Edition}
 use Rattle.wire.specs.Decode.{reads_in}
 use Rattle.trailer.specs.Trailer.{trailer_of}
 use Rattle.trailer.specs.declared.Trailer.{Trailer}
-use Rattle.trailer.specs.declared.Trailer.TheVariants.{Found, Refused as NoTrailer}
+use Rattle.std.proofs.Common.{Result, Ok, Err}
+use Rattle.refused.specs.declared.Refusal.{Refusal}
+use Rattle.refused.specs.declared.Refusal.TheVariants.{OutputTooShort}
 use Rattle.banks.specs.State.{fresh}
 use Rattle.replay.specs.Replay.{played, play_of, replay_from, replay_of}
 use Rattle.replay.proofs.Bytes.{reading_there}
@@ -24,7 +26,7 @@ play_small : (e : Edition) (rs : List (List ℕ)) (room i : ℕ) → get_or (pla
 unfolding play_of
 play_small e rs room i = by (leb (8 * reads_in rs) room)
   where
-    by : (t : Bool) → get_or (cond t (played e rs) (halted fresh 0 [] 6)).readings i 0 < 2 ^ 64
+    by : (t : Bool) → get_or (cond t (played e rs) (halted fresh 0 [] OutputTooShort)).readings i 0 < 2 ^ 64
     by true = readings_small e fresh rs state_first i
     by false = omega arith
 
@@ -32,9 +34,9 @@ pub replay_small : (log : List ℕ) (room i : ℕ) → get_or (replay_of log roo
 unfolding replay_of replay_from
 replay_small log room i = by (trailer_of log)
   where
-    by : (t : Trailer) → get_or (replay_from t log room).readings i 0 < 2 ^ 64
-    by (NoTrailer k) = omega arith
-    by (Found a n e) = play_small _ _ room i
+    by : (t : Result Trailer Refusal) → get_or (replay_from t log room).readings i 0 < 2 ^ 64
+    by (Err k) = omega arith
+    by (Ok t) = play_small _ _ room i
 
 pub eight_bytes : EightBytes
 unfolding output_of over

@@ -8,7 +8,9 @@ use native.Mathlib.Nat.{add-zero, mod-lt, mod-eq_of_lt}
 use native.Mathlib.Omega.{arith}
 use lib.ListN.{length, length-drop}
 use Rattle.fold.specs.Run.{Course, going, stopped, under, resumed, run_of}
-use Rattle.fold.specs.Output.{number_of}
+use Rattle.refused.specs.Number.{number, number_of}
+use Rattle.refused.specs.declared.Refusal.{Refusal}
+use Rattle.fold.specs.Output.{refusal_of}
 use Rattle.fold.specs.Stream.{wholes, left_over}
 use Rattle.fold.proofs.Streams.{no_wholes, all_left}
 use Rattle.edition.specs.Edition.{edition_of}
@@ -31,12 +33,12 @@ stays s (c ∷ cs) h =
 
 -- ---- a refused record's number is neither 0 nor 6
 
-number_not : (s : Live) (b : List ℕ) (k j : ℕ) → (ran s b).course ≡ stopped k → j < 7 → k ≡ j → ⊥
+number_not : (s : Live) (b : List ℕ) (k : Refusal) (j : ℕ) → (ran s b).course ≡ stopped k → j < 7 → number k ≡ j → ⊥
 number_not s b k j e small is = ⊎_elim (λ w. omega arith) (λ w. ⊎_elim (λ q. omega arith) (λ q. omega arith) w) (run_number (edition_of s.edition) s.state (finished s b) k e)
 
-taken_some : (s : Live) (b : List ℕ) (k : ℕ) → (ran s b).course ≡ stopped k → (taken_of s b).live.refused ≡ 0 → ⊥
+taken_some : (s : Live) (b : List ℕ) (k : Refusal) → (ran s b).course ≡ stopped k → (taken_of s b).live.refused ≡ 0 → ⊥
 unfolding taken_of
-taken_some s b k e h = number_not s b k 0 e (omega arith) (sym (ap number_of e) ∙ h)
+taken_some s b k e h = number_not s b k 0 e (omega arith) (sym (ap (λ (c : Course). number_of (refusal_of c)) e) ∙ h)
 
 nothing_behind : (s : Live) (b : List ℕ) → joined (taken_of s b) (record { live = (taken_of s b).live; refused = (taken_of s b).live.refused; readings = [] }) ≡ taken_of s b
 unfolding taken_of
@@ -46,7 +48,7 @@ pub taken_not_six : (s : Live) (b : List ℕ) → (taken_of s b).refused ≡ 6 �
 unfolding taken_of
 taken_not_six s b h = by (ran s b).course refl h
   where
-    by : (c : Course) → (ran s b).course ≡ c → number_of c ≡ 6 → ⊥
+    by : (c : Course) → (ran s b).course ≡ c → number_of (refusal_of c) ≡ 6 → ⊥
     by going e i = omega arith
     by (stopped k) e i = number_not s b k 6 e (omega arith) i
 
@@ -72,7 +74,7 @@ left_few b = omega (arith, length-drop (16 * (length b / 16)) b)
 
 goes_on : (s : Live) (b : List ℕ) → (ran s b).course ≡ going → Going (taken_of s b).live
 unfolding taken_of
-goes_on s b e = record { none = ap number_of e; few = rw e (left_few (s.carried ++ b)); small = mod-lt (s.applied + (ran s b).applied) (omega arith) }
+goes_on s b e = record { none = ap (λ (c : Course). number_of (refusal_of c)) e; few = rw e (left_few (s.carried ++ b)); small = mod-lt (s.applied + (ran s b).applied) (omega arith) }
 
 pub all_at_once : (s : Live) (cs : List Lent) → Going s → Roomy s cs → streamed s cs ≡ taken_of s (bytes_in cs)
 unfolding streamed Roomy flatten

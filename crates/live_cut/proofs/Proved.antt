@@ -10,21 +10,23 @@ use lib.Dec.{eqb}
 use lib.ListN.{length, take, drop, take-append-drop, length-drop, drop_of_length-le}
 use lib.Seq.{length-take-le}
 use borrow.Author.Tests.{eq-eqb, ne_eqb}
-use Rattle.fold.specs.Output.{stop_of, number_of}
+use Rattle.refused.specs.Number.{number_of}
+use Rattle.refused.specs.declared.Refusal.{Refusal}
+use Rattle.std.proofs.Common.{Result, Ok}
+use Rattle.fold.specs.Output.{stop_of, refusal_of}
 use Rattle.fold.specs.Device.{records}
 use Rattle.fold.specs.Stream.{wholes, left_over}
 use Rattle.fold.proofs.Streams.{records_front}
 use Rattle.edition.specs.Edition.{edition_of}
 use Rattle.trailer.specs.Trailer.{trailer_of, records_at, edition_at}
 use Rattle.trailer.specs.declared.Trailer.{Trailer}
-use Rattle.trailer.specs.declared.Trailer.TheVariants.{Found}
 use Rattle.trailer.proofs.Laws.{ends}
 use Rattle.bank.specs.Bank.{encoder_at}
 use Rattle.banks.specs.declared.State.{State}
 use Rattle.banks.specs.State.{bank_at}
 use Rattle.replay.specs.Replay.{played, replay_of}
 use Rattle.replay.proofs.Numbers.{small}
-use Rattle.replay.proofs.Proved.{replayed}
+use Rattle.replay.proofs.Replays.{replayed}
 use Rattle.travel.specs.Stretch.{pins_in, encoder_after}
 use Rattle.travel.specs.Demand.{Demand}
 use Rattle.travel.proofs.Proved.{demand_of_runs}
@@ -43,16 +45,16 @@ left_long b = omega (arith, length-drop (16 * (length b / 16)) b)
 
 end_of_one : (e : ℕ) (b : List ℕ) → (taken_of (fresh_of e) b).refused ≡ 0 → end_of (taken_of (fresh_of e) b).live ≡ cond (eqb (length b % 16) 0) 0 5
 unfolding taken_of
-end_of_one e b g = rw (eq-eqb (number_of (played (edition_of e) (wholes 16 b)).course) 0 g) (ap (λ (n : ℕ). cond (eqb n 0) 0 5) (left_long b))
+end_of_one e b g = rw (eq-eqb (number_of (refusal_of (played (edition_of e) (wholes 16 b)).course)) 0 g) (ap (λ (n : ℕ). cond (eqb n 0) 0 5) (left_long b))
 
 -- ---- a log's records
 
-module _ (log : List ℕ) (a n e : ℕ) (found : trailer_of log ≡ Found a n e) where
+module _ (log : List ℕ) (a n e : ℕ) (found : trailer_of log ≡ Ok (record { start = a; count = n; edition = e })) where
   abbrev all : List ℕ
   all = take (16 * n) (drop a log)
 
   long : length all ≡ 16 * n
-  long = length-take-le (16 * n) (drop a log) (omega (arith, length-drop a log, ends log a n e found))
+  long = length-take-le (16 * n) (drop a log) (omega (arith, length-drop a log, (ends log _ found).0))
 
   log_records : wholes 16 all ≡ records 16 n (drop a log)
   log_records =
@@ -85,12 +87,12 @@ cuts = record {
   of_logs = λ log room a n e cs found enough is h.
       let x = replay_of log room in
       let same : played (edition_of e) (wholes 16 (all log a n e found)) ≡ x =
-      ap₂ played (ap edition_at (sym found)) (log_records log a n e found ∙ ap (λ (t : Trailer). records_at t log) (sym found))
-      ∙ sym (replayed log a n e room found enough) in
+      ap₂ played (ap edition_at (sym found)) (log_records log a n e found ∙ ap (λ (r : Result Trailer Refusal). records_at r log) (sym found))
+      ∙ sym (replayed log _ room found enough) in
       let few : x.applied % 2 ^ 64 ≡ x.applied = mod-eq_of_lt (omega (arith, small log room (stop_of x) refl)) in
       any_cut e cs h
       ∙ ap (taken_of (fresh_of e)) is
-      ∙ rw (same, none_left log a n e found (eqb (number_of x.course) 0), zero-add x.applied, few);
+      ∙ rw (same, none_left log a n e found (eqb (number_of (refusal_of x.course)) 0), zero-add x.applied, few);
   six_leaves = six_leaves;
   refused_again = λ s cs b room h. (stays s cs h, ways.refused_again s b room h, rw (ne_eqb s.refused 0 h));
   demand = λ e k i cs before r rs h cut st.

@@ -1,12 +1,12 @@
 -- What is shown of a stream: of any edition's number, any bytes, however they are cut into chunks, empty ones too.
 -- Assumes nothing.
-use Rattle.std.specs.Prelude.{ℕ, ◌*◌, ◌%◌, ◌≤◌, ◌≡◌, cond, List, [], ◌∷◌, ◌++◌, eqb, length, take, drop}
-use Rattle.fold.specs.Output.{number_of}
+use Rattle.std.specs.Prelude.{ℕ, ◌*◌, ◌%◌, ◌≤◌, ◌≡◌, cond, List, [], ◌∷◌, ◌++◌, eqb, length, take, drop, Ok}
+use Rattle.refused.specs.Number.{number_of}
+use Rattle.fold.specs.Output.{refusal_of}
 use Rattle.fold.specs.Stream.{wholes}
 use Rattle.edition.specs.Edition.{edition_of}
 use Rattle.wire.specs.Decode.{reads_in}
 use Rattle.trailer.specs.Trailer.{trailer_of, records_of}
-use Rattle.trailer.specs.declared.Trailer.TheVariants.{Found}
 use Rattle.bank.specs.Bank.{encoder_at}
 use Rattle.banks.specs.State.{bank_at}
 use Rattle.replay.specs.Replay.{replay_of}
@@ -24,8 +24,8 @@ pub record Cuts : Type 0 where
       → end_of (streamed (fresh_of e) cs).live ≡ cond (eqb (length (bytes_in cs) % 16) 0) 0 5
   -- "the readings, the end state, the applied number and the first refusal are those of the whole log": its records arrive in chunks, by its
   -- edition, and its replay has room
-  pub of_logs : (log : List ℕ) (room a n e : ℕ) (cs : List Lent) → trailer_of log ≡ Found a n e → 8 * reads_in (records_of log) ≤ room
-      → bytes_in cs ≡ take (16 * n) (drop a log) → Roomy (fresh_of e) cs → let x = replay_of log room in let k = number_of x.course in
+  pub of_logs : (log : List ℕ) (room a n e : ℕ) (cs : List Lent) → trailer_of log ≡ Ok (record { start = a; count = n; edition = e }) → 8 * reads_in (records_of log) ≤ room
+      → bytes_in cs ≡ take (16 * n) (drop a log) → Roomy (fresh_of e) cs → let x = replay_of log room in let k = number_of (refusal_of x.course) in
       let end : Live = record { edition = e; state = x.state; carried = []; applied = x.applied; refused = k } in
       streamed (fresh_of e) cs ≡ record { live = end; refused = k; readings = x.readings }
   -- 6 "leaves state and output untouched": the same chunk with more room goes on as if nothing had happened
