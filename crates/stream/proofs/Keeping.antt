@@ -8,7 +8,8 @@ use lib.Dec.{eqb, leb}
 use lib.ListN.{length, length-drop}
 use lib.Seq.{get_or-drop}
 use Rattle.fold.specs.Run.{Run, run_of}
-use Rattle.fold.specs.Output.{number_of}
+use Rattle.refused.specs.Number.{number_of}
+use Rattle.fold.specs.Output.{refusal_of}
 use Rattle.fold.specs.Stream.{left_over}
 use Rattle.edition.specs.Edition.{known, edition_of}
 use Rattle.wire.specs.Decode.{reads_in}
@@ -45,8 +46,8 @@ module _ (l : Live) (f : Fits l) (bytes : List ℕ) (given : Bytes bytes) where
   fits_taken = record {
     edition = f.edition;
     refused = run_refusal (edition_of l.edition) l.state (finished l bytes);
-    held = few_carried (eqb (number_of ran.course) 0) (l.carried ++ bytes);
-    carried = bytes_left (eqb (number_of ran.course) 0) (l.carried ++ bytes) (bytes_both l.carried bytes f.carried given);
+    held = few_carried (eqb (number_of (refusal_of ran.course)) 0) (l.carried ++ bytes);
+    carried = bytes_left (eqb (number_of (refusal_of ran.course)) 0) (l.carried ++ bytes) (bytes_both l.carried bytes f.carried given);
     applied = omega arith;
     banks = run_kept (edition_of l.edition) l.state (finished l bytes) f.banks;
   }

@@ -3,10 +3,10 @@ use mathlib.Core.Path.{◌≡◌, sym, ap, ◌∙◌, subst}
 use mathlib.Core.Bool.{Bool, true, false}
 use mathlib.Core.List.{List, ◌++◌}
 use mathlib.Core.Logic.{inl}
-use Prim.Native.Nat.{ℕ, ◌+◌, ◌-◌, ◌<◌, ◌≤◌}
+use Prim.Native.Nat.{ℕ, ◌+◌, ◌-◌, ◌≤◌}
 use native.Mathlib.Omega.{arith}
 use lib.ListN.{length, get_or, drop, length-drop, length-replicate}
-use borrow.Author.Tests.{le-leb, lt-leb}
+use borrow.Author.Tests.{le-leb}
 use mir.Syntax.{w8}
 use mir.Val as val
 use Rattle.fold.specs.Output.{over}
@@ -21,7 +21,12 @@ use Rattle.image_state.specs.Image.{size, image_of, Fits, Stands}
 use Rattle.image_state.specs.How.{load_of, is_state, Loads, Saves}
 use Rattle.image_state.proofs.Passing.{passed}
 use Rattle.image_state.proofs.Loaded.{image_long, stands, only_states}
-use Rattle.stream.specs.Stream.{start_of, started_in, On}
+use Rattle.std.proofs.Common.{Result, Err, Some}
+use Rattle.std.specs.Result.{result_err}
+use Rattle.refused.specs.Number.{number_of}
+use Rattle.refused.specs.declared.Refusal.{Refusal}
+use Rattle.refused.specs.declared.Refusal.TheVariants.{NoState}
+use Rattle.stream.specs.Stream.{started_in, Tells, On}
 use Rattle.stream.specs.declared.Told.{Told}
 use Rattle.stream.proofs.Keeping.{fits_chunk, fits_fresh}
 
@@ -40,19 +45,7 @@ image_over l f state = ap (λ (n : ℕ). image_of l ++ drop n state) (sym (image
 -- ---- start
 
 module _ (edition : ℕ) (state : List ℕ) where
-  pub no_edition_lem : (k : Bool) → k ≡ known edition → k ≡ false → 4 ≡ start_of edition (length state)
-  no_edition_lem k is h = rw (← is, h)
-
-  pub no_edition_left : (k : Bool) → k ≡ known edition → k ≡ false → state ≡ started_in edition state
-  no_edition_left k is h = rw (← is, h)
-
   module _ (k : Bool) (is : k ≡ known edition) (h : k ≡ true) where
-    pub short : length state < 864 → 6 ≡ start_of edition (length state)
-    short l = rw (← is, h, lt-leb size (length state) l)
-
-    pub short_left : length state < 864 → state ≡ started_in edition state
-    short_left l = rw (← is, h, lt-leb size (length state) l)
-
     module _ (s : Stream) (fresh : live_of s ≡ fresh_of edition) (good : Good s) where
       fits : Fits (fresh_of edition)
       fits = fits_fresh edition (sym is ∙ h)
@@ -61,9 +54,6 @@ module _ (edition : ℕ) (state : List ℕ) where
       fresh_saves = record { fits = subst Fits (sym fresh) fits; few = good.few; zeros = good.zeros }
 
       module _ (l : 864 ≤ length state) where
-        pub starts : 0 ≡ start_of edition (length state)
-        starts = rw (← is, h, le-leb size (length state) l)
-
         pub started : (after : List ℕ) → after ≡ image_of (live_of s) ++ drop size state → after ≡ started_in edition state
         started after e = rw (← is, h, le-leb size (length state) l) (e ∙ rw fresh (image_over (fresh_of edition) fits state))
 
@@ -105,8 +95,8 @@ module _ (state : List ℕ) (t : Bool) (is : t ≡ is_state state) where
           zeros = loads.zeros;
         }
 
-        pub ends : (n : ℕ) → n ≡ end_of (live_of r) → On state (λ l. n ≡ end_of l) (n ≡ 19)
-        ends n e = inl (live_of r, there, e)
+        pub ends : (e : Result (Unit {0}) Refusal) → number_of (result_err e) ≡ end_of (live_of r) → On state (λ l. number_of (result_err e) ≡ end_of l) (e ≡ Err NoState)
+        ends e p = inl (live_of r, there, p)
 
         module _ (bytes : List ℕ) (given : Held bytes) (room : ℕ) (c : Chunked) (comes : Comes (chunk_of (live_of r) bytes room) c) where
           fits_on : Fits (live_of c.stream)
@@ -118,8 +108,8 @@ module _ (state : List ℕ) (t : Bool) (is : t ≡ is_state state) where
           abbrev told : Told
           told = record { refused = c.refused; readings = c.readings }
 
-          pub tells : On state (λ l. told ≡ record { refused = (chunk_of l bytes room).refused; readings = length (chunk_of l bytes room).readings }) (told ≡ record { refused = 19; readings = 0 })
-          tells = inl (live_of r, there, cc)
+          pub tells : On state (λ l. Tells (chunk_of l bytes room) told) (told ≡ record { refused = Some NoState; readings = 0 })
+          tells = inl (live_of r, there, (comes.refused, comes.readings))
 
           pub keeps : (after : List ℕ) → after ≡ image_of (live_of c.stream) ++ drop size state → On state (λ l. after ≡ over (image_of (chunk_of l bytes room).live) state) (after ≡ state)
           keeps after e = inl (live_of r, there, e ∙ image_over (live_of c.stream) fits_on state ∙ ap (λ (l : Live). over (image_of l) state) comes.live)
