@@ -2,11 +2,10 @@
 -- Assumes nothing.
 use mathlib.Core.Path.{◌≡◌, refl, sym, ap, ◌∙◌}
 use mathlib.Core.Bool.{Bool, true, false, ◌&&◌, ◌||◌, true≢false, false≢true}
-use Prim.Native.Nat.{ℕ, ◌+◌, ◌*◌, ◌^◌, ◌<◌}
-use native.Mathlib.Nat.{lt_of_le_of_lt, mul-le-mul_right}
+use Prim.Native.Nat.{ℕ, ◌+◌, ◌*◌, ◌<◌}
 use native.Mathlib.Omega.{arith}
-use lib.Dec.{T, ltb, eqb, lit<}
-use lib.Bits.{bit_and, and_le_r}
+use lib.Dec.{eqb}
+use lib.Bits.{bit_and}
 use borrow.Author.Tests.{eqb-true, eq-eqb, ne_eqb}
 use Rattle.laws.proofs.Truth.{both_true}
 use Rattle.select_allowed.specs.Allowed.{field_of, some, three, allowed}
@@ -124,9 +123,6 @@ paired_keeps : (s : ℕ) → Allowed s → paired (twos s) ≡ true
 unfolding double pairs
 paired_keeps s k =
     eq-eqb _ _ (all_pairs (λ (v : ℕ). eqb v 2) 10 s (λ i h. rw (inside s (2 * i) (omega arith), inside s (2 * i + 1) (omega arith)) (k.pairs i h)))
-
-pub fits : (e m k : ℕ) → T (ltb (m * k) (2 ^ 64)) → bit_and e m * k < 2 ^ 64
-fits e m k h = lt_of_le_of_lt (mul-le-mul_right k (and_le_r e m)) (lit< h)
 
 -- ---- both tests
 

@@ -6,7 +6,7 @@ ghost use Rattle.select_allowed.specs.Allowed.{allowed};
 ghost use Rattle.select_allowed.specs.How.{threes, twos};
 
 // The low bit of each pin's field, and of each pair's four bits.
-const PINS: u64 = 0x5555555555;
+pub const PINS: u64 = 0x5555555555;
 
 const PAIRS: u64 = 0x1111111111;
 
