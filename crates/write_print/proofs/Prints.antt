@@ -1,15 +1,16 @@
 -- The ways of a written log to its output. Assumes nothing.
-use mathlib.Core.Path.{◌≡◌, refl, sym, ap, ◌∙◌, subst}
+use mathlib.Core.Path.{◌≡◌, refl, ap, ◌∙◌, subst}
 use mathlib.Core.Bool.{Bool, true, false, not, cond}
 use mathlib.Core.List.{List, [], ◌∷◌, ◌++◌}
 use Prim.Native.Nat.{ℕ, ◌+◌, ◌/◌, ◌%◌, ◌^◌, ◌≤◌, ◌<◌}
 use native.Mathlib.Omega.{arith}
 use lib.Dec.{ltb, eqb}
 use lib.ListN.{length, drop, length-append}
-use borrow.Author.Tests.{le-ltb, ltb-false, eqb-true, eqb-false}
+use borrow.Author.Tests.{le-ltb, ltb-false}
+use Rattle.std.specs.Prelude.{Option, None, Some, Result, Ok, Err}
+use Rattle.std.specs.Result.{result_and, result_err}
 use Rattle.decimal.specs.Ascii.{ascii}
 use Rattle.outside.specs.Counts.{IsPrefixLen}
-use Rattle.std.proofs.Common.{Option, Some, None}
 use Rattle.decimal.specs.Digits.{digits_of}
 use Rattle.decimal.specs.Put.{Put}
 use Rattle.decimal.proofs.Back.{twenty_digits}
@@ -18,60 +19,65 @@ use Rattle.text.specs.Text.{line, no_number_text}
 use Rattle.edition.specs.declared.Edition.{Edition}
 use Rattle.edition.specs.Edition.{known, edition_of}
 use Rattle.fold.specs.Output.{over}
+use Rattle.refused.specs.declared.Refusal.{Refusal}
+use Rattle.refused.specs.declared.Refusal.TheVariants.{LogTooLong, WrongEdition, WrongDistance, OutputTooShort}
 use Rattle.wire.specs.Decode.{decode_of}
 use Rattle.records.specs.Record.{refusal_of}
-use Rattle.records.specs.declared.Decoded.{Decoded}
-use Rattle.records.specs.declared.Decoded.TheVariants.{Names, Refused}
-use Rattle.wire.proofs.Formed.{refused_by_lem}
 use Rattle.trailer.proofs.Laws.{length_records}
-use Rattle.writer.specs.declared.Written.{Written}
+use Rattle.made.specs.declared.Failure.{Failure}
 use Rattle.writer.specs.How.{records_in}
-use Rattle.writer.specs.Writer.{log_of, refused_by, first_of, written_of, output_of}
+use Rattle.writer.specs.Writer.{log_of, refused_by, whole, first_by, first_of, written_of, output_of}
 use Rattle.writer.proofs.Answers.{accepted}
-use Rattle.printed.specs.declared.Printed.{Printed}
-use Rattle.printed.specs.Printed.{Prints, Printing}
+use Rattle.printed.specs.Printed.{Prints, Printing, size_of}
 use Rattle.printed.proofs.Prints.{put_counts, prints_made, prints_refused}
 use Rattle.write_print.specs.Printed.{WritePrinted}
 
--- ---- the numbers of an answer are small
+-- ---- a record that is refused is one of the run's
 
-refusal_small : (e : Edition) (r : List ℕ) → refusal_of (decode_of e r) < 9
-refusal_small e r = by (decode_of e r) refl
-  where
-    by : (d : Decoded) → decode_of e r ≡ d → refusal_of d < 9
-    by (Names x) p = omega arith
-    by (Refused n) p = (refused_by_lem e r n p).1
+module _ (most : ℕ) where
+  Small : {A : Type 0} → Result A Failure → Type 0
+  Small (Ok n) = Unit {0}
+  Small (Err f) = f.index ≤ most
 
-Small : ℕ → Written → Type 0
-Small most w = (w.refused < 9) × (w.number ≤ most)
+  fixed : (A : Type 0) (k : Refusal) → Small {A = A} (refused_by k)
+  unfolding Small
+  fixed A k = omega arith
 
-small_cond : (most : ℕ) (t : Bool) (x y : Written) → Small most x → Small most y → Small most (cond t x y)
-small_cond most true x y p q = p
-small_cond most false x y p q = q
+  small_cond : {A : Type 0} (t : Bool) (x y : Result A Failure) → Small x → Small y → Small (cond t x y)
+  small_cond true x y p q = p
+  small_cond false x y p q = q
 
-first_small : (e : Edition) (i most : ℕ) (rs : List (List ℕ)) → i + length rs ≤ most → Small most (first_of e i rs)
-unfolding Small first_of
-first_small e i most [] h = (omega arith, omega arith)
-first_small e i most (r ∷ rs) h = small_cond most (eqb (refusal_of (decode_of e r)) 0) _ _ (first_small e (i + 1) most rs (omega arith)) (refusal_small e r, omega arith)
+  small_and : {A B : Type 0} (x : Result A Failure) (y : Result B Failure) → Small x → Small y → Small (result_and x y)
+  unfolding Small
+  small_and (Ok n) y p q = q
+  small_and (Err f) y p q = p
+
+  first_small : (e : Edition) (i : ℕ) (rs : List (List ℕ)) → i + length rs ≤ most → Small (first_of e i rs)
+  unfolding Small first_of
+  first_small e i [] h = tt
+  first_small e i (r ∷ rs) h = by (refusal_of (decode_of e r)) (first_small e (i + 1) rs (omega arith))
+    where
+      by : (d : Result (Unit {0}) Refusal) → Small (first_of e (i + 1) rs) → Small (first_by d i (first_of e (i + 1) rs))
+      by (Ok q) s = s
+      by (Err k) s = omega arith
 
 module _ (edition : ℕ) (notes run : List ℕ) (room : ℕ) where
   abbrev size : ℕ
   size = length (log_of notes run edition)
 
-  small : Small (32_768 + length run / 16) (written_of edition notes run room)
+  abbrev few : ℕ
+  few = length run / 16
+
+  small : Small few (written_of edition notes run room)
   unfolding Small written_of
   small =
-      small_cond _ (not (known edition)) _ _ (fixed 4 (omega arith))
-      (small_cond _ (not (eqb (length run % 16) 0)) _ _ (fixed 5 (omega arith))
-      (small_cond _ (not (eqb (first_of (edition_of edition) 0 (records_in run)).refused 0)) _ _ (first_small (edition_of edition) 0 _ (records_in run) (omega (arith, length_records 16 (length run / 16) run)))
-      (ending (ltb 32768 size) refl)))
-    where
-      fixed : (k : ℕ) → k < 9 → Small (32_768 + length run / 16) (refused_by k)
-      fixed k h = (h, omega arith)
-
-      ending : (d : Bool) → ltb 32768 size ≡ d → Small (32_768 + length run / 16) (cond d (refused_by 1) (cond (ltb room size) (refused_by 6) (record { refused = 0; number = size })))
-      ending true e = fixed 1 (omega arith)
-      ending false e = small_cond _ (ltb room size) _ _ (fixed 6 (omega arith)) (omega arith, omega (arith, ltb-false 32768 size e))
+      small_cond few (not (known edition)) _ _ (fixed few ℕ WrongEdition)
+      (small_and few (result_and (whole (length run)) (first_of (edition_of edition) 0 (records_in run))) _
+      (small_and few (whole (length run)) (first_of (edition_of edition) 0 (records_in run))
+      (small_cond few (eqb (length run % 16) 0) (Ok tt) (refused_by WrongDistance) tt (fixed few (Unit {0}) WrongDistance))
+      (first_small few (edition_of edition) 0 (records_in run) (omega (arith, length_records 16 few run))))
+      (small_cond few (ltb 32768 size) (refused_by LogTooLong) _ (fixed few ℕ LogTooLong)
+      (small_cond few (ltb room size) (refused_by OutputTooShort) (Ok size) (fixed few ℕ OutputTooShort) tt)))
 
   -- every log has room in 32,768 bytes
   roomy : 32768 ≤ room → written_of edition notes run room ≡ written_of edition notes run 32_768
@@ -84,29 +90,24 @@ module _ (edition : ℕ) (notes run : List ℕ) (room : ℕ) where
 
 -- ---- the ways
 
-module _ (edition : ℕ) (notes run out mid out' : List ℕ) (p : Printed) (room : 32768 ≤ length out) (short : length run < 2 ^ 64) (w : Written) (is : w ≡ written_of edition notes run (length out)) (left : mid ≡ output_of edition notes run out)
-    (x : Printing w.refused w.number w.number mid out' p) where
-  same : written_of edition notes run 32_768 ≡ w
-  same = sym (is ∙ roomy edition notes run (length out) room)
-
-  few : (w.refused < 9) × (w.number ≤ 32_768 + length run / 16)
-  unfolding Small
-  few = subst (Small (32_768 + length run / 16)) (sym is) (small edition notes run (length out))
+module _ (edition : ℕ) (notes run out mid out' : List ℕ) (p : Result ℕ ℕ) (room : 32768 ≤ length out) (short : length run < 2 ^ 64) (w : Result ℕ Failure)
+    (is : w ≡ written_of edition notes run (length out)) (left : mid ≡ output_of edition notes run out) (x : Printing w mid out' p) where
+  same : w ≡ written_of edition notes run 32_768
+  same = is ∙ roomy edition notes run (length out) room
 
   pub log_printed : WritePrinted (Some edition) notes run out' p
-  unfolding over
-  log_printed = rw same (by (eqb w.refused 0) refl)
+  unfolding over Small
+  log_printed = by (written_of edition notes run (length out)) refl (subst (λ (v : Result ℕ Failure). Printing v mid out' p) is x) (small edition notes run (length out))
     where
-      by : (t : Bool) → eqb w.refused 0 ≡ t → Prints w.refused w.number (log_of notes run edition) out' p
-      by true e =
+      by : (v : Result ℕ Failure) → written_of edition notes run (length out) ≡ v → Printing v mid out' p → Small (length run / 16) v
+          → Prints (result_err (written_of edition notes run 32_768)) (log_of notes run edition) out' p
+      by (Ok n) e y s =
           let log = log_of notes run edition in
-          let z = eqb-true w.refused 0 e in
-          let a = accepted edition notes run (length out) (ap (λ (v : Written). v.refused) (sym is) ∙ z) in
-          prints_made w.refused w.number w.number log (drop (length log) out) mid out' p x w.number z (ap (λ (v : Written). v.number) (is ∙ a.is)) (left ∙ rw a.is)
-      by false e =
-          let nz = eqb-false w.refused 0 e in
-          let m : mid ≡ out = left ∙ rw (← is, e) in
-          prints_refused w.refused w.number w.number (log_of notes run edition) [] mid out' p x nz (omega (arith, few)) (omega (arith, few)) (omega (arith, ap length m))
+          let a = accepted edition notes run (length out) n e in
+          rw (← roomy edition notes run (length out) room, e) (prints_made log mid out' p n (drop (length log) out) y a.size (left ∙ rw e))
+      by (Err f) e y s =
+          let m : mid ≡ out = left ∙ rw e in
+          rw (← roomy edition notes run (length out) room, e) (prints_refused (log_of notes run edition) mid out' p f y (omega arith) (omega (arith, ap length m)))
 
 -- what is no number
 abbrev edition_word : List ℕ
@@ -118,13 +119,13 @@ none_short =
     omega (arith, length-append edition_word (line (ascii " is no decimal number from 0 to " ++ most)), length-append (ascii " is no decimal number from 0 to " ++ most) (10 ∷ []), length-append (ascii " is no decimal number from 0 to ") most, twenty_digits 18_446_744_073_709_551_615 (omega arith))
 
 pub no_number_printed : (edition : Option ℕ) (notes run out out' : List ℕ) (n : ℕ) → edition ≡ None → 32768 ≤ length out → Put out 0 (no_number_text edition_word) out' n
-    → WritePrinted edition notes run out' (record { size = n; refused = true })
+    → WritePrinted edition notes run out' (Err n)
 no_number_printed edition notes run out out' n e room x = rw e
     (record { counts = put_counts out out' (no_number_text edition_word) n x; bytes = (put_whole out (no_number_text edition_word) out' n x (omega (arith, none_short))).1; where_to = refl })
 
-pub number_printed : (edition : Option ℕ) (k : ℕ) (notes run out' : List ℕ) (p : Printed) → edition ≡ Some k → WritePrinted (Some k) notes run out' p → WritePrinted edition notes run out' p
+pub number_printed : (edition : Option ℕ) (k : ℕ) (notes run out' : List ℕ) (p : Result ℕ ℕ) → edition ≡ Some k → WritePrinted (Some k) notes run out' p → WritePrinted edition notes run out' p
 number_printed edition k notes run out' p e h = rw e h
 
-pub some_counts : (edition : Option ℕ) (notes run out' : List ℕ) (p : Printed) → WritePrinted edition notes run out' p → IsPrefixLen p.size out'
+pub some_counts : (edition : Option ℕ) (notes run out' : List ℕ) (p : Result ℕ ℕ) → WritePrinted edition notes run out' p → IsPrefixLen (size_of p) out'
 some_counts None notes run out' p h = h.counts
 some_counts (Some k) notes run out' p h = h.counts

@@ -3,6 +3,7 @@
 
 ghost use Rattle.std.specs.Prelude.{◌≤◌, length, Some};
 ghost use Rattle.outside.specs.Counts.{IsPrefixLen};
+ghost use Rattle.printed.specs.Printed.{size_of};
 ghost use Rattle.write_print.specs.Printed.{WritePrinted};
 
 use printed::Printed;
@@ -13,8 +14,8 @@ fn write_edition(text: &mut [u8], edition: u64, notes: &[u8], records: &[u8]) ->
     requires { 32768 ≤ length text.old }
     ensures { WritePrinted (Some edition) notes.now records.now text.new result }
 {
-    let w = writer::write(edition, notes, records, text);
-    printed::told(text, w.refused, w.number, w.number)
+    let written = writer::write(edition, notes, records, text);
+    printed::told(text, written)
 }
 
 pub fn write_log(text: &mut [u8], edition: Option<u64>, notes: &[u8], records: &[u8]) -> Printed
@@ -22,11 +23,7 @@ pub fn write_log(text: &mut [u8], edition: Option<u64>, notes: &[u8], records: &
     ensures { WritePrinted edition notes.now records.now text.new result }
 {
     let Some(number) = edition else {
-        let n = text_answers::no_number_text(text, b"EDITION");
-        return Printed {
-            size: n,
-            refused: true,
-        };
+        return Err(text_answers::no_number_text(text, b"EDITION"));
     };
     write_edition(text, number, notes, records)
 }
@@ -35,7 +32,7 @@ pub fn write_log(text: &mut [u8], edition: Option<u64>, notes: &[u8], records: &
 // input shows.
 fn write_records(rt: &(impl Env + Input), text: &mut [u8], notes: &[u8]) -> Printed
     requires { 32768 ≤ length text.old }
-    ensures { IsPrefixLen result.size text.new }
+    ensures { IsPrefixLen (size_of result) text.new }
 {
     let mut word = outside::buffer();
     let n = outside::arg(rt, 2, &mut word);
@@ -47,7 +44,7 @@ fn write_records(rt: &(impl Env + Input), text: &mut [u8], notes: &[u8]) -> Prin
 // By the program's arguments: EDITION, and a file of notes or none. One byte more than a log may have, so that over-long notes show.
 pub fn write_input(rt: &(impl Env + Files + Input), text: &mut [u8]) -> Printed
     requires { 32768 ≤ length text.old }
-    ensures { IsPrefixLen result.size text.new }
+    ensures { IsPrefixLen (size_of result) text.new }
 {
     if outside::arg_count(rt) != 4 {
         return write_records(rt, text, b"");
@@ -56,10 +53,7 @@ pub fn write_input(rt: &(impl Env + Files + Input), text: &mut [u8]) -> Printed
     let n = outside::arg(rt, 3, &mut path);
     let mut notes = [0u8; 32769];
     let Some(m) = outside::read_file(rt, &path[..n], &mut notes) else {
-        return Printed {
-            size: text::put_word(text, 0, b"the notes' file cannot be opened\n"),
-            refused: true,
-        };
+        return Err(text::put_word(text, 0, b"the notes' file cannot be opened\n"));
     };
     write_records(rt, text, &notes[..m])
 }
