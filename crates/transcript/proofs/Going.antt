@@ -211,18 +211,27 @@ module _ (log : List ℕ) (start : ℕ) (out ts : List ℕ) (ready : Ready log s
               moves = q;
             }
 
-            unmoved : plain log ≡ opposite log → x ≡ v
-            unmoved p = e ∙ sym opposite_at ∙ ap (λ (l : List ℕ). le_of 8 l (8 * j)) (sym p) ∙ plain_at
+          pub other_on : c ≡ false → t ≡ v → ((k : ℕ) → Fits w8 (get_or ts k 0)) → Going log start ts still (at + 16) (j + 1)
+          other_on f a bytes = reads_on v (sym (rw f)) a bytes still (λ s. (s, refl)) g.moves
 
-            pub reads_next : Going log start ts (still && eqb x v) (at + 16) (j + 1)
-            reads_next = reads_on (still && eqb x v) (λ s. let k = both_true still (eqb x v) s in (k.0, eqb-true x v k.1)) (by still (eqb x v) refl g.moves)
-              where
-                by : (s d : Bool) → eqb x v ≡ d → (s ≡ false → plain log ≡ opposite log → ⊥) → (s && d) ≡ false → plain log ≡ opposite log → ⊥
-                by true true h m f p = absurd (true≢false f)
-                by true false h m f p = eqb-false x v h (unmoved p)
-                by false d h m f p = m refl p
+          unmoved : (w : ℕ) → w ≡ cond c (neg v) v → plain log ≡ opposite log → w ≡ v
+          unmoved w e p = e ∙ sym opposite_at ∙ ap (λ (l : List ℕ). le_of 8 l (8 * j)) (sym p) ∙ plain_at
+
+          pub cntr_on : (w : ℕ) → c ≡ true → w ≡ neg v → t ≡ w → ((k : ℕ) → Fits w8 (get_or ts k 0)) → Going log start ts (still && eqb w v) (at + 16) (j + 1)
+          cntr_on w f h a bytes =
+              let e : w ≡ cond c (neg v) v = h ∙ sym (rw f) in
+              reads_on w e a bytes (still && eqb w v) (λ s. let k = both_true still (eqb w v) s in (k.0, eqb-true w v k.1)) (by still (eqb w v) refl g.moves e)
+            where
+              by : (s d : Bool) → eqb w v ≡ d → (s ≡ false → plain log ≡ opposite log → ⊥) → w ≡ cond c (neg v) v → (s && d) ≡ false → plain log ≡ opposite log → ⊥
+              by true true h m e f p = absurd (true≢false f)
+              by true false h m e f p = eqb-false w v h (unmoved w e p)
+              by false d h m e f p = m refl p
 
           -- ---- a reading that is not the negated one: the plain comparison decides
 
-          pub breaks : (x : ℕ) → x ≡ cond c (neg v) v → (t ≡ x → ⊥) → (r : Verdict) → Plainly ts out r → Answer log ts (Ok r)
-          breaks x e d r plainly = settled r plainly (not_opposite (λ h. d (h ∙ sym e)))
+          module _ (r : Verdict) (plainly : Plainly ts out r) where
+            pub other_breaks : c ≡ false → (t ≡ v → ⊥) → Answer log ts (Ok r)
+            other_breaks f d = settled r plainly (not_opposite (λ e. d (rw f at e)))
+
+            pub cntr_breaks : (w : ℕ) → c ≡ true → w ≡ neg v → (t ≡ w → ⊥) → Answer log ts (Ok r)
+            cntr_breaks w f h d = settled r plainly (not_opposite (λ e. d ((rw f at e) ∙ sym h)))
