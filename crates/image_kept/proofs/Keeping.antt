@@ -1,27 +1,26 @@
 -- A record leaves every register in its range: the state of a stream has an image, after any records too.
 -- Assumes nothing.
 use mathlib.Core.Path.{◌≡◌, refl, sym, ◌∙◌, subst}
-use mathlib.Core.Bool.{Bool, true, false}
+use mathlib.Core.Bool.{true}
 use mathlib.Core.List.{List}
 use mathlib.Core.Logic.{inl, inr}
 use Prim.Native.Nat.{ℕ, ◌<◌}
 use native.Mathlib.Omega.{arith}
-use lib.Dec.{eqb}
 use lib.ListN.{length-set}
-use borrow.Author.Tests.{eqb-true, eqb-false, le-leb, ne_eqb}
+use borrow.Author.Tests.{le-leb, ne_eqb}
 use Rattle.laws.proofs.Each.{length_each, each_keeps, set_keeps, fresh_keeps}
-use Rattle.fold.specs.Turn.{Turn, goes, refused, leaves}
+use Rattle.fold.specs.Turn.{Turn, leaves}
 use Rattle.fold.specs.Run.{Course, going, stopped, run_of}
 use Rattle.refused.specs.Number.{number, number_of}
 use Rattle.refused.specs.declared.Refusal.{Refusal}
 use Rattle.std.proofs.Common.{Result, Ok, Err}
 use Rattle.fold.specs.Output as output
-use Rattle.fold.proofs.Laws.{keeps, stopped_by}
+use Rattle.fold.proofs.Laws.{keeps}
 use Rattle.edition.specs.declared.Edition.{Edition}
 use Rattle.wire.specs.Decode.{bank_of}
 use Rattle.records.specs.declared.Record.{Record}
 use Rattle.records.specs.declared.Record.TheVariants.{WriteSelect, WriteEncoder, WritePwm, WriteI2c, Answer, ReadSelect, ReadEncoder, ReadPwm, ReadI2c, Pins, Ticks}
-use Rattle.wire.proofs.Formed.{Formed, formed, bank_formed, refused_by_lem}
+use Rattle.wire.proofs.Formed.{Formed, formed, bank_formed}
 use Rattle.encoder.specs.declared.Encoder.{Encoder}
 use Rattle.encoder.specs.Encoder as encoder
 use Rattle.pwm.specs.declared.Pwm.{Pwm}
@@ -33,12 +32,11 @@ use Rattle.bank.specs.Bank as bank
 use Rattle.bank.specs.Bank.{encoder_at, with_encoder, pwm_at, with_pwm, with_i2c, reroute, tick_routed}
 use Rattle.refusals.specs.How.{refusal_of}
 use Rattle.walk.proofs.Numbers.{Number, run_number}
-use Rattle.bank.proofs.Turns.{passing, turn_passes, turn_refused, turn_number}
+use Rattle.bank.proofs.Turns.{passing, turn_passes, turn_refused}
 use Rattle.banks.specs.declared.State.{State}
-use Rattle.banks.specs.State.{fresh, bank_at, with_bank}
+use Rattle.banks.specs.State.{fresh, bank_at}
 use Rattle.banks.proofs.Whole.{Both, holds_first, holds_one, holds_both}
 use Rattle.walk.specs.Turn.{turn_of}
-use Rattle.fold.proofs.Turns.{lift_refused}
 use Rattle.walk.proofs.Replaying.{by_turn}
 use Rattle.image_words.specs.Words.{FitsI2c, FitsEncoder}
 use Rattle.image_pwm.specs.Words.{FitsPwm}

@@ -7,7 +7,6 @@ use Prim.Native.Nat.{ℕ, zero, suc, ◌^◌, ◌<◌}
 use native.Mathlib.Omega.{arith}
 use lib.Dec.{eqb}
 use lib.ListN.{get_or}
-use borrow.Author.Tests.{eqb-true, eqb-false}
 use Rattle.std.proofs.Common.{Result, Ok, Err}
 use Rattle.refused.specs.declared.Refusal.{Refusal}
 use Rattle.fold.specs.Turn.{Turn, given}

@@ -19,16 +19,15 @@ use Rattle.image_state.specs.How.{FitsState}
 use Rattle.image_kept.proofs.Keeping.{state_first, run_kept}
 use Rattle.image_kept.proofs.Readings.{readings_small}
 use Rattle.transcript.proofs.Numbers.{in_bytes}
-use Rattle.text.specs.Text.{lines_of, readings_in, stop_text}
+use Rattle.text.specs.Text.{lines_of, readings_in}
 use Rattle.text.proofs.Room.{lines_below}
-use Rattle.printed.proofs.Prints.{put_counts}
 use Rattle.printed.proofs.Readings.{long_bytes, readings_back}
-use Rattle.live_state.specs.Live.{Live, Taken, fresh_of, taken_of, chunk_of, end_of}
+use Rattle.live_state.specs.Live.{Live, Taken, fresh_of, taken_of, chunk_of}
 use Rattle.live_state.specs.How.{finished, live_of, Good, Comes, written_by}
 use Rattle.live_state.specs.declared.Stream.{Stream}
 use Rattle.live_state.specs.declared.Chunked.{Chunked}
 use Rattle.live_state.proofs.Ways.{Way, again, taken, not_taken, with_room, way}
-use Rattle.stream_print.specs.Shown.{arrived, shown_of, last_of}
+use Rattle.stream_print.specs.Shown.{arrived, shown_of}
 use Rattle.stream_print.specs.How.{Ready}
 
 -- ---- 257 records at most
@@ -135,13 +134,3 @@ module _ (s : Stream) (ready : Ready s) (chunk : List ℕ) (room : ℕ) (is : ro
         → Put text 0 (shown_of (arrived (live_of s) chunk)) text' n
     unfolding t
     shown text text' n p = rw (theirs, back) at p
-
--- ---- the last line
-
-pub last : (s : Stream) (k n : ℕ) (text text' : List ℕ) → k ≡ end_of (live_of s) → Put text 0 (stop_text s.applied k) text' n → Put text 0 (last_of (live_of s)) text' n
-last s k n text text' e x = rw e at x
-
--- ---- what is put can be written
-
-pub counted : (a b s : List ℕ) (n : ℕ) → Put a 0 s b n → n ≡ length (take n b)
-counted a b s n x = (put_counts a b s n x).1

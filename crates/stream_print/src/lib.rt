@@ -5,12 +5,14 @@ ghost use Rattle.std.specs.Prelude.{◌≡◌, ◌≤◌, length, IfOk, OnErr};
 ghost use Rattle.outside.specs.Counts.{IsPrefixLen};
 ghost use Rattle.decimal.specs.Put.{Put};
 ghost use Rattle.live_state.specs.How.{live_of, Good};
+ghost use Rattle.printed.specs.Printed.{size_of};
 ghost use Rattle.stream_print.specs.Shown.{arrived, shown_of, last_of, no_edition};
 ghost use Rattle.stream_print.specs.How.{Ready};
 
 use edition::Edition;
 use live_state::Stream;
 use printed::Printed;
+use refused::Refusal;
 use std::io;
 use std::io::{Input, Print};
 use std::rt::Env;
@@ -36,7 +38,7 @@ pub fn chunk_text(text: &mut [u8], s: Stream, bytes: &[u8]) -> Shown
     let n = 8 * chunked.readings;
     let stream = chunked.stream;
     Shown {
-        stream: stream,
+        stream,
         size: text_readings::put_readings(text, &out[..n]),
     }
 }
@@ -46,21 +48,16 @@ pub fn end_text(text: &mut [u8], s: Stream) -> usize
     requires { Good s }
     ensures { Put text.old 0 (last_of (live_of s)) text.new result }
 {
-    text::put_pair(
-        text,
-        0,
-        b"applied ",
-        s.applied,
-        b" refused ",
-        live_state::end(s) as u64,
-    )
+    let number = live_state::end(s).err().map_or(0, Refusal::number);
+    text::put_pair(text, 0, b"applied ", s.applied, b" refused ", number as u64)
 }
 
 // The same where the edition is none: nothing is read.
 pub fn no_edition_text(text: &mut [u8]) -> usize
     ensures { Put text.old 0 no_edition text.new result }
 {
-    text::put_pair(text, 0, b"applied ", 0, b" refused ", 4)
+    let number = Refusal::WrongEdition.number();
+    text::put_pair(text, 0, b"applied ", 0, b" refused ", number as u64)
 }
 
 // A chunk's readings, written at once, or the error of that write.
@@ -77,42 +74,20 @@ fn show(rt: &impl Print, s: Stream, bytes: &[u8]) -> io::Result<Stream>
     Ok(shown.stream)
 }
 
-// The stream after what a read gave, and whether more is to be read: not after the input's end, nor after a refused record, whose answer no
-// byte can change.
-#[derive(Clone, Copy)]
-struct Next {
-    stream: Stream,
-    more: bool,
-}
-
-// Whatever is there is a chunk. What is read no contract can say.
-fn read_on(rt: &(impl Input + Print), s: Stream) -> io::Result<Next>
-    requires { Ready s }
-    ensures { IfOk result (λ r. Ready r.stream) }
-{
-    let mut bytes = outside::buffer();
-    let n = outside::read_chunk(rt, &mut bytes);
-    let stream = show(rt, s, &bytes[..n])?;
-    Ok(Next {
-        stream: stream,
-        more: (n > 0) & (stream.refused == 0),
-    })
-}
-
-// Chunk after chunk. The loop ends with the input: 2^64 reads take longer than any machine lasts.
+// Chunk after chunk, up to the input's end or to a refused record, whose answer no byte can change. Whatever a read gives is a chunk, and
+// what it gives no contract can say. 2^64 reads take longer than any machine lasts.
 fn all(rt: &(impl Input + Print), first: Stream) -> io::Result<Stream>
     requires { Ready first }
     ensures { IfOk result (λ r. Ready r) }
 {
     let mut s = first;
-    let mut reads: u64 = 0;
-    while reads < 18_446_744_073_709_551_615 {
-        let then = read_on(rt, s)?;
-        s = then.stream;
-        if !then.more {
+    for _ in 0..u64::MAX {
+        let mut bytes = outside::buffer();
+        let n = outside::read_chunk(rt, &mut bytes);
+        s = show(rt, s, &bytes[..n])?;
+        if (n == 0) | s.refused.is_some() {
             break;
         }
-        reads += 1;
     }
     Ok(s)
 }
@@ -120,26 +95,17 @@ fn all(rt: &(impl Input + Print), first: Stream) -> io::Result<Stream>
 // By the program's argument EDITION. The readings are written as they come, the last line is left in the text. Where the readings cannot be
 // written, that is the answer, and the text is as it was.
 pub fn stream_input(rt: &(impl Env + Input + Print), text: &mut [u8]) -> io::Result<Printed>
-    ensures prefix_len { IfOk result (λ r. IsPrefixLen r.size text.new) }
+    ensures prefix_len { IfOk result (λ r. IsPrefixLen (size_of r) text.new) }
     ensures unchanged { OnErr result (text.new ≡ text.old) }
 {
     let mut word = outside::buffer();
     let n = outside::arg(rt, 2, &mut word);
     let Some(number) = decimal::read(&word[..n]) else {
-        return Ok(Printed {
-            size: text_answers::no_number_text(text, b"EDITION"),
-            refused: true,
-        });
+        return Ok(Err(text_answers::no_number_text(text, b"EDITION")));
     };
     if !Edition::known(number) {
-        return Ok(Printed {
-            size: no_edition_text(text),
-            refused: false,
-        });
+        return Ok(Ok(no_edition_text(text)));
     }
     let ended = all(rt, live_state::start(number))?;
-    Ok(Printed {
-        size: end_text(text, ended),
-        refused: false,
-    })
+    Ok(Ok(end_text(text, ended)))
 }
