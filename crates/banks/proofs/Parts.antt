@@ -1,12 +1,12 @@
 -- Laws of the parts of a flat list.
 -- Assumes nothing.
 use mathlib.Core.Path.{◌≡◌, sym, ap, ◌∙◌}
-use mathlib.Core.List.{List, ◌++◌, append_assoc, append-nil}
+use mathlib.Core.List.{List, ◌++◌, append_assoc}
 use Prim.Native.Nat.{ℕ, ◌+◌, ◌*◌, ◌≤◌, ◌<◌}
 use native.Mathlib.Omega.{arith}
 use native.Mathlib.Nat.{mul-zero, mul-one, zero-add}
 use native.Mathlib.Numerals.{add-one}
-use lib.ListN.{length, get_or, set, take, drop, drop_of_length-le, length-drop}
+use lib.ListN.{length, get_or, set, take, drop}
 use lib.Seq.{get_or-take, get_or-drop, take-set-le, take-set-lt, drop-set-lt, drop-set-add, length-take-le, take_all, take_at, drop_at, paste, paste-suc, drop-paste}
 use Rattle.banks.specs.How.{part}
 
@@ -42,18 +42,9 @@ module _ {A : Type 0} (n : ℕ) (l s : List A) (ls : length s ≡ n) where
       let e : n * 1 ≡ n * 0 + n = omega arith in
       rw e (ap (take n) (drop-paste l (n * 0) s n (omega arith) (omega (arith, ls))))
 
-module _ {A : Type 0} where
-  pub copied_one : (l : List A) (at : ℕ) (s : List A) (i : ℕ) (d : A) → at + i < length l → i < length s → set (paste l at s i) (at + i) (get_or s i d) ≡ paste l at s (i + 1)
-  copied_one l at s i d h w = rw (add-one i) (paste-suc l at s i d h w)
-
-  -- the next of part k, stored
-  pub taken_one : (n : ℕ) (m l : List A) (k i : ℕ) (d : A) → i < length m → n * k + i < length l
-      → set (paste m 0 (drop (n * k) l) i) i (get_or l (n * k + i) d) ≡ paste m 0 (drop (n * k) l) (i + 1)
-  taken_one n m l k i d h w =
-      let there : i < length (drop (n * k) l) = rw (length-drop (n * k) l) (omega arith) in
-      ap (set (paste m 0 (drop (n * k) l) i) i) (sym (get_or-drop (n * k) l i d))
-      ∙ ap (λ (j : ℕ). set (paste m 0 (drop (n * k) l) i) j (get_or (drop (n * k) l) i d)) (sym (zero-add i))
-      ∙ copied_one m 0 (drop (n * k) l) i d (omega arith) there
-
-  pub taken_all : (n : ℕ) (m s : List A) → length m ≡ n → paste m 0 s n ≡ take n s
-  taken_all n m s e = rw (zero-add n, drop_of_length-le m {i = n} (omega (arith, e))) (append-nil (take n s))
+-- one element more, copied over what d had
+pub copied_one : {A : Type 0} (d l s : List A) (i : ℕ) (x : A) → l ≡ paste d 0 s i → x ≡ get_or s i x → i < length d → i < length s → set l i x ≡ paste d 0 s (i + 1)
+copied_one {A} d l s i x e is h w =
+    let there : 0 + i < length d = omega arith in
+    let more = paste-suc d 0 s i x there w in
+    rw (e, add-one i) (ap (λ (y : A). set (paste d 0 s i) i y) is ∙ ap (λ (j : ℕ). set (paste d 0 s i) j (get_or s i x)) (sym (zero-add i)) ∙ more)

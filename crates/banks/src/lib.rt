@@ -1,7 +1,7 @@
 // Both banks: as two bank structs, which is how a state is passed and returned, and laid out flat, which is how the replay walks over it.
 #![tactic(auto)]
 
-ghost use Rattle.std.specs.Prelude.{◌≡◌, ◌<◌};
+ghost use Rattle.std.specs.Prelude.{◌≡◌, ◌<◌, length};
 ghost use Rattle.banks.specs.State.{fresh, with_bank};
 ghost use Rattle.banks.specs.How.{state_of, bank_in};
 
@@ -31,22 +31,25 @@ pub fn fresh() -> State
     State { banks: [b; 2] }
 }
 
+// As `copy_from_slice` does, which takes three times the instructions.
+fn copy<T: Copy>(to: &mut [T], from: &[T])
+    requires { length to.old ≡ length from.now }
+    ensures { to.new ≡ from.now }
+{
+    for i in 0..from.len() {
+        to[i] = from[i];
+    }
+}
+
 // Bank k becomes b.
 fn laid(f: Flat, k: usize, b: Bank) -> Flat
     requires { k < 2 }
     ensures { state_of result ≡ with_bank k (state_of f) b }
 {
     let mut g = f;
-    for i in 0..10 {
-        let e = b.encoders[i];
-        g.encoders[10 * k + i] = e;
-    }
-    for i in 0..20 {
-        let p = b.pwms[i];
-        g.pwms[20 * k + i] = p;
-    }
-    let c = b.i2c;
-    g.i2cs[k] = c;
+    copy(&mut g.encoders[10 * k..10 * k + 10], &b.encoders);
+    copy(&mut g.pwms[20 * k..20 * k + 20], &b.pwms);
+    g.i2cs[k] = b.i2c;
     g.selects[k] = b.select;
     g
 }
@@ -73,16 +76,9 @@ fn bank_in(f: Flat, k: usize) -> Bank
     ensures { result ≡ bank_in k f }
 {
     let mut b = bank::fresh();
-    for i in 0..10 {
-        let e = f.encoders[10 * k + i];
-        b.encoders[i] = e;
-    }
-    for i in 0..20 {
-        let p = f.pwms[20 * k + i];
-        b.pwms[i] = p;
-    }
-    let c = f.i2cs[k];
-    b.i2c = c;
+    copy(&mut b.encoders, &f.encoders[10 * k..10 * k + 10]);
+    copy(&mut b.pwms, &f.pwms[20 * k..20 * k + 20]);
+    b.i2c = f.i2cs[k];
     b.select = f.selects[k];
     b
 }
