@@ -80,9 +80,6 @@ module _ (bytes : List ℕ) where
         pub pins_encoder : e < 20
         pins_encoder = (goods (Pins e v) q).0
 
-        pub pins_in_row : e < length pins
-        pins_in_row = omega (arith, pins_encoder, m.long)
-
         pub marks_pins : Marking (set pins e 4) (i + 1)
         unfolding declared
         marks_pins = record {

@@ -36,10 +36,10 @@ fn present(records: &[u8]) -> [u8; 20]
     requires { Ready records.now }
     ensures { result ≡ start_of (steps_in records.now) }
 {
-    let mut pins = [5u8; 20];
+    let mut pins = [vcd::NO_WIRE; 20];
     for i in 0..records.len() / 16 {
         if let Step::Pins { encoder, .. } = seen(&records[16 * i..16 * i + 16]) {
-            pins[encoder] = 4;
+            pins[encoder] = vcd::UNKNOWN;
         }
     }
     pins
@@ -82,16 +82,17 @@ fn write(records: &[u8], out: &mut [u8]) -> usize
     body(records, pins, out, at)
 }
 
-// Where every dump has room it is written in place, else into a buffer of our own first, so that a refusal writes nothing.
+// Where every dump has room it is written in place, else into a buffer of our own first, so that a
+// refusal writes nothing.
 fn write_all(records: &[u8], out: &mut [u8]) -> Result<usize, Failure>
     requires { Ready records.now }
     ensures value { result ≡ handed_of (text_in records.now) (length out.old) }
     ensures out_after { out.new ≡ handed_in (text_in records.now) out.old }
 {
-    if 25207 <= out.len() {
+    if vcd::DUMP_BYTES <= out.len() {
         return Ok(write(records, out));
     }
-    let mut own = [0u8; 25207];
+    let mut own = [0u8; vcd::DUMP_BYTES];
     let size = write(records, &mut own);
     made::hand_out(&own[..size], out)
 }

@@ -2,16 +2,15 @@
 use mathlib.Core.Path.{◌≡◌, refl, sym, ap, ◌∙◌, subst}
 use mathlib.Core.Bool.{true, false, cond}
 use mathlib.Core.List.{List, [], ◌∷◌, ◌++◌, append_assoc, append-nil, flatten}
-use Prim.Native.Nat.{ℕ, suc, ◌+◌, ◌*◌, ◌/◌, ◌%◌, ◌≤◌, ◌<◌}
+use Prim.Native.Nat.{ℕ, suc, ◌+◌, ◌*◌, ◌≤◌, ◌<◌}
 use native.Mathlib.Omega.{arith}
 use native.Mathlib.Nat.{add-zero, add-suc, suc-add, zero-add}
 use native.Mathlib.Numerals.{add-one}
 use lib.Dec.{eqb}
-use lib.ListN.{length, take, get_or, set, replicate, length-append, length-map}
+use lib.ListN.{length, take, get_or, set, length-append, length-map}
 use lib.Seq.{sets, length-sets, take-suc, take_all, length-take-le}
 use Rattle.std.proofs.lemmas.List.{get_or-map}
 use Rattle.decimal.specs.Put.{Put}
-use Rattle.numbers.specs.Bytes.{le_bytes}
 use Rattle.vcd.specs.declared.Line.{Line}
 use Rattle.vcd.specs.declared.Line.TheVariants.{Fixed, Var, Unknown, Time, Change, Other}
 use Rattle.vcd.specs.declared.Channel.{Channel}
@@ -52,10 +51,6 @@ pub stored_long : (a b : List ℕ) (xs : List Entry) (m n : ℕ) → Stored a m 
 stored_long a b xs m n x = ap length x.bytes ∙ length-sets a (16 * m) (bytes_of xs)
 
 -- ---- one encoder's entry
-
-pub entry_is : (x : List ℕ) (time e p : ℕ) → x ≡ sets (replicate 16 0) 0 (le_bytes 8 time)
-    → set (set (set x 8 (e / 10)) 9 (e % 10)) 10 p ≡ entry_bytes (record { time = time; encoder = e; pins = p })
-entry_is x time e p q = rw q
 
 module _ (time e : ℕ) (x : Channel) (out : List ℕ) (n : ℕ) where
   pub entry_none : x.changed ≡ false → Stored out n (entries_at time e (x.pins ∷ []) (flag x.changed ∷ [])) out n

@@ -9,7 +9,7 @@ use native.Mathlib.Numerals.{add-one}
 use lib.Dec.{eqb}
 use lib.ListN.{length, take, drop, get_or, length-drop, drop_of_length-le}
 use lib.Seq.{drop-cons, take-suc, get_or-drop, length-take-le, sets-eq}
-use borrow.Author.Tests.{not-true, not-false, eq-eqb, ne_eqb, lt-ltb, le-ltb, eqb-true, eqb-false}
+use borrow.Author.Tests.{not-true, not-false, eq-eqb, ne_eqb, le-ltb, eqb-true, eqb-false}
 use Rattle.fold.specs.Output.{over}
 use Rattle.vcd.specs.declared.Line.{Line}
 use Rattle.vcd.specs.declared.Line.TheVariants.{Other}
@@ -19,7 +19,7 @@ use Rattle.vcd.specs.How.{Position, position_of, line_of, lines_from, lines_of, 
 use Rattle.dump_read.specs.declared.Scan.{Scan}
 use Rattle.dump_read.specs.Reading.{Answer}
 use Rattle.dump_read.specs.How.{bytes_of, Stored}
-use Rattle.dump_read.proofs.Stores.{bytes_long, stored_none, stored_then, stored_long}
+use Rattle.dump_read.proofs.Stores.{bytes_long, stored_none, stored_then}
 use Rattle.dump_read.proofs.Answers.{refusing, too_small, reading_all}
 
 -- ---- the line from start to i is under way
@@ -142,16 +142,9 @@ module _ (text out₀ out : List ℕ) (s : Scan) (start i : ℕ) (g : Reading te
           (sym (g.told ∙ ap (λ (ls : List Line). g.so_far ++ told_from (position_of s.reader) ls) last_lines ∙ ap (λ (xs : List Entry). g.so_far ++ xs) (last_told (eqb start i))))
           (stored_then out₀ out out' g.so_far (standing (position_of s.reader)) 0 s.count count g.wrote x)
 
-      pub read_long : length out' ≡ length out₀
-      read_long = stored_long out₀ out' (told_from opening (lines_of text)) 0 count read_told
-
 -- ---- the whole
 
 module _ (text out : List ℕ) where
-  pub long_answer : 25207 < length text → Answer text out 20 0 out
-  unfolding read_of
-  long_answer h = refusing text out (rw (lt-ltb 25207 (length text) h))
-
   module _ (fits : length text ≤ 25207) (s : Scan) (is : position_of s.reader ≡ foldl turn_of opening (lines_of text)) (t : Bool) (w : t ≡ whole (position_of s.reader)) where
     abbrev xs : List Entry
     xs = told_from opening (lines_of text)

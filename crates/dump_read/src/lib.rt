@@ -1,4 +1,5 @@
-// Reads a dump back, and no other text: the pins after all changes at each time at which something changed.
+// Reads a dump back, and no other text: the pins after all changes at each time at which something
+// changed.
 #![tactic(auto)]
 
 ghost use Rattle.std.specs.Prelude.{◌≡◌, ◌+◌, ◌<◌, ◌≤◌, length};
@@ -115,7 +116,7 @@ pub fn dump_read(text: &[u8], out: &mut [u8]) -> Result<usize, Refusal>
     ensures answer { Answer text.now out.old (refused_of result) (count_of result) out.new }
     ensures count_bound { count_of result ≤ 504160 }
 {
-    if text.len() > 25207 {
+    if text.len() > vcd::DUMP_BYTES {
         return Err(Refusal::NoDump);
     }
     let s = read_text(text, &mut []);

@@ -1,11 +1,22 @@
-// The value change dump of docs/WAVEFORM.md: its lines, and the bytes of the ones that name a wire. Wire 2e is pin A of encoder e and 2e + 1
-// its pin B; encoder e is encoder e % 10 of bank e / 10.
+// The value change dump of docs/WAVEFORM.md: its lines, and the bytes of the ones that name a wire.
+// Wire 2e is pin A of encoder e and 2e + 1 its pin B; encoder e is encoder e % 10 of bank e / 10.
 #![tactic(auto)]
 
 ghost use Rattle.std.specs.Prelude.{◌≡◌, ◌<◌};
 ghost use Rattle.vcd.specs.Lines.{code_of, var_of};
 
-// What a record says about time and pins: ticks pass, or the pins of an encoder have a value, bit 0 its A and bit 1 its B.
+// No dump is longer.
+pub const DUMP_BYTES: usize = 25_207;
+
+// An encoder's pins are a number: 0 to 3 their value, 4 unknown, 5 no wire. A number, since
+// `body_from` and `entries_from`, on which the theorem AllShown stands, compare it with the one
+// before.
+pub const UNKNOWN: u8 = 4;
+
+pub const NO_WIRE: u8 = 5;
+
+// What a record says about time and pins: ticks pass, or the pins of an encoder have a value, bit 0
+// its A and bit 1 its B.
 #[derive(Clone, Copy)]
 pub enum Step {
     Wait(u64),
@@ -23,8 +34,9 @@ pub enum Mark {
     End,
 }
 
-// A line: a fixed one, a wire's declaration, its unknown value, a time in ns, a wire's new value, or none of these. A line that is no dump's
-// is a line and no `None`: a reader takes its turn at it too, and refuses.
+// A line: a fixed one, a wire's declaration, its unknown value, a time in ns, a wire's new value,
+// or none of these. `Other` and no `None`, since a reader takes its turn at it as at every line,
+// and refuses. Wires are numbers below 40 and no type, since `dump_of` counts them.
 #[derive(Clone, Copy)]
 pub enum Line {
     Fixed(Mark),
@@ -50,15 +62,15 @@ pub enum Phase {
     Refused,
 }
 
-// What a reader knows of an encoder: its pins, and whether they changed at this time. The pins are a number as in `entries_from`: 0 to 3 a value,
-// 4 unknown, 5 no wire.
+// What a reader knows of an encoder: its pins, and whether they changed at this time.
 #[derive(Clone, Copy)]
 pub struct Channel {
     pub pins: u8,
     pub changed: bool,
 }
 
-// Where a reader stands: its phase; the wire that has to come next, or where it is even the least that may; the time; and each encoder.
+// Where a reader stands: its phase; the wire that has to come next, or where it is even the least
+// that may, so that 0 is any and no `None`; the time; and each encoder.
 #[derive(Clone, Copy)]
 pub struct Reader {
     pub phase: Phase,

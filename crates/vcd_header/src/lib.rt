@@ -1,4 +1,5 @@
-// The header of a dump, put into a lent slice: a wire for each pin of each encoder that has pins. Every function answers the place after what it put.
+// The header of a dump, put into a lent slice: a wire for each pin of each encoder that has pins.
+// Every function answers the place after what it put.
 #![tactic(auto)]
 
 ghost use Rattle.std.specs.Prelude.{◌≡◌, ℕ, [], ◌∷◌, ◌<◌};
@@ -21,6 +22,7 @@ fn put_line(out: &mut [u8], at: usize, line: Line) -> usize
             decimal::put_byte(out, end, b'\n')
         }
         Line::Unknown(wire) => vcd_write::put_value(out, at, b'x', wire),
+        // No other line names a wire alone.
         _ => at,
     }
 }
@@ -33,7 +35,7 @@ fn put_wires<F: Fn(usize) -> Line>(out: &mut [u8], at: usize, pins: [u8; 20], li
 {
     let mut end = at;
     for e in 0..20 {
-        if pins[e] != 5 {
+        if pins[e] != vcd::NO_WIRE {
             end = put_line(out, end, line(2 * e));
             end = put_line(out, end, line(2 * e + 1));
         }

@@ -6,7 +6,7 @@ ghost use Rattle.vcd.specs.Lines.{place};
 ghost use Rattle.vcd.specs.How.{number_of_phase, position_of, pins_of, changed_of, unchanged as unchanged_of, refused as refused_of, follows as follows_of, fixed_turn, var_turn, unknown_turn, time_turn, pin_of, taken as taken_of, pinned as pinned_of, change_turn, turn_of, opening as opening_of, whole as whole_of};
 ghost use Rattle.vcd_read.specs.Bounds.{Bounded};
 
-use vcd::{Channel, Line, Mark, Phase, Reader};
+use vcd::{Channel, Line, Mark, NO_WIRE, Phase, Reader, UNKNOWN};
 
 pub fn opening() -> Reader
     ensures { position_of result ≡ opening_of }
@@ -16,7 +16,7 @@ pub fn opening() -> Reader
         awaited: 0,
         now: 0,
         channels: [Channel {
-            pins: 5,
+            pins: NO_WIRE,
             changed: false,
         }; 20],
     }
@@ -31,7 +31,8 @@ fn refused(r: Reader) -> Reader
     }
 }
 
-// Whether a wire may come in the header: just the awaited one where it is odd, else the A of an encoder that is not before it.
+// Whether a wire may come in the header: just the awaited one where it is odd, else the A of an
+// encoder that is not before it.
 fn follows(awaited: usize, wire: usize) -> bool
     ensures { result ≡ follows_of awaited wire }
 {
@@ -76,7 +77,7 @@ fn var_turn(r: Reader, wire: usize) -> Reader
 {
     if r.phase == Phase::Header(Mark::Upscope) && follows(r.awaited, wire) {
         let mut channels = r.channels;
-        channels[wire / 2].pins = 4;
+        channels[wire / 2].pins = UNKNOWN;
         Reader {
             awaited: wire + 1,
             channels,
@@ -92,7 +93,7 @@ fn unknown_turn(r: Reader, wire: usize) -> Reader
     ensures { position_of result ≡ unknown_turn (position_of r) wire }
 {
     let p = r.channels[wire / 2].pins;
-    if r.phase == Phase::Header(Mark::End) && follows(r.awaited, wire) && p == 4 {
+    if r.phase == Phase::Header(Mark::End) && follows(r.awaited, wire) && p == UNKNOWN {
         Reader {
             awaited: wire + 1,
             ..r
@@ -141,10 +142,10 @@ fn taken(awaited: usize, p: u8, wire: usize, b: u8) -> bool
 {
     if awaited != 0 {
         wire == awaited
-    } else if p == 4 {
+    } else if p == UNKNOWN {
         wire % 2 == 0
     } else {
-        p < 4 && pin_of(p, wire) != b
+        p < UNKNOWN && pin_of(p, wire) != b
     }
 }
 
@@ -164,7 +165,11 @@ fn awaits(awaited: usize, p: u8, wire: usize) -> usize
     requires { wire < 40 }
     ensures { result ≡ cond (eqb awaited 0 && eqb p 4) (wire + 1) 0 }
 {
-    if awaited == 0 && p == 4 { wire + 1 } else { 0 }
+    if awaited == 0 && p == UNKNOWN {
+        wire + 1
+    } else {
+        0
+    }
 }
 
 fn change_turn(r: Reader, wire: usize, b: u8) -> Reader
@@ -206,7 +211,8 @@ pub fn next(r: Reader, l: Line) -> Reader
     }
 }
 
-// The end of a text that is cut into lines, or of one that has more behind its last newline, which is no line.
+// The end of a text that is cut into lines, or of one that has more behind its last newline, which
+// is no line.
 pub fn ended(r: Reader, cut: bool) -> Reader
     ensures { position_of result ≡ cond cut (position_of r) (refused_of (position_of r)) }
 {

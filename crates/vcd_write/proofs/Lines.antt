@@ -20,9 +20,6 @@ lines_then a b c ls ms p q r x y = rw text_append (put_then a b c (text_of ls) (
 -- ---- one line
 
 module _ (out a b c : List ℕ) (at p q r : ℕ) where
-  pub value_put : (v w k : ℕ) → k ≡ code_of w → Put out at (v ∷ []) a p → Put a p (k ∷ []) b q → Put b q (10 ∷ []) c r → Put out at (v ∷ code_of w ∷ 10 ∷ []) c r
-  value_put v w k e x y z = rw (← e) (put_then out a c (v ∷ []) (k ∷ 10 ∷ []) at p r x (put_then a b c (k ∷ []) (10 ∷ []) p q r y z))
-
   pub time_put : (t : ℕ) → Put out at (35 ∷ []) a p → Put a p (digits_of t) b q → Put b q (10 ∷ []) c r → Put out at (text_of (Time t ∷ [])) c r
   unfolding text_of print_of
   time_put t x y z = put_then out a c (35 ∷ []) (digits_of t ++ 10 ∷ []) at p r x (put_then a b c (digits_of t) (10 ∷ []) p q r y z)

@@ -45,7 +45,7 @@ fn put_change(out: &mut [u8], at: usize, same: bool, wire: usize, bit: u8) -> us
     }
 }
 
-// The pins of an encoder were p, 4 being unknown, and are v.
+// The pins of an encoder were p and are v.
 pub fn put_changes(
     out: &mut [u8],
     at: usize,
@@ -61,7 +61,7 @@ pub fn put_changes(
     if p == v {
         return at;
     }
-    let known = p < 4;
+    let known = p < vcd::UNKNOWN;
     let a = put_stamp(out, at, told, time);
     let b = put_change(out, a, known & (p % 2 == v % 2), 2 * encoder, v % 2);
     put_change(out, b, known & (p / 2 == v / 2), 2 * encoder + 1, v / 2)

@@ -2,7 +2,7 @@
 use Rattle.std.proofs.Common.{rules, arith, ◌≡◌, length}
 use Rattle.vcd_header.proofs.Wires.{wires_none, encoder_none, encoder_two, wires_done}
 use Rattle.vcd_header.proofs.put_wires.Goals as goal
-use Rattle.vcd_header.proofs.put_wires.Goals.{then-pins-e-ne5, else-pins-e-ne5}
+use Rattle.vcd_header.proofs.put_wires.Goals.{then-pins-e-ne-NO_WIRE, else-pins-e-ne-NO_WIRE}
 
 pub loop-e-init : goal.loop-e-init
 loop-e-init g c = λ of h. wires_none _ _ _
@@ -12,12 +12,12 @@ loop-e-preserved g c =
     λ of h.
     let long : length c.args.pins ≡ 20 = search rules in
     let so_far = c.loop-e.invariant of h in
-    elim c.if-pins-e-ne5.branch [
-      | then-pins-e-ne5 w ↦
+    elim c.if-pins-e-ne-NO_WIRE.branch [
+      | then-pins-e-ne-NO_WIRE w ↦
           rw (w.out-is, w.end-is)
-          (encoder_two of _ _ _ _ _ _ so_far long c.loop-e-test.true _ _ _ _ _ _ w.if-pins-e-ne5.true (h _ _ (omega arith) w.line.ensures) (h _ _ (omega arith) w.line-then-pins-e-ne5.ensures)
-          w.put_line-end.ensures w.put_line-end-then-pins-e-ne5.ensures)
-      | else-pins-e-ne5 w ↦ rw (w.out-is, w.end-is) (encoder_none of _ _ _ _ _ _ so_far long c.loop-e-test.true w.if-pins-e-ne5.false)
+          (encoder_two of _ _ _ _ _ _ so_far long c.loop-e-test.true _ _ _ _ _ _ w.if-pins-e-ne-NO_WIRE.true (h _ _ (omega arith) w.line.ensures) (h _ _ (omega arith) w.line-then-pins-e-ne-NO_WIRE.ensures)
+          w.put_line-end.ensures w.put_line-end-then-pins-e-ne-NO_WIRE.ensures)
+      | else-pins-e-ne-NO_WIRE w ↦ rw (w.out-is, w.end-is) (encoder_none of _ _ _ _ _ _ so_far long c.loop-e-test.true w.if-pins-e-ne-NO_WIRE.false)
     ]
 
 pub returns : goal.returns
