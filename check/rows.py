@@ -19,7 +19,7 @@ SECTIONS = [f"01 {name}" for name in "built log refusal select encoder pwm i2c r
 SECTIONS += [f"02 {name}" for name in ["intro", *"abcdefghijklmn"]]
 SHOWN = {"proved": "proved", "compiler": "by the compiler", "tested only": "tested only", "document": "in a document", "not shown": "not shown"}
 ANTT = re.compile(r"^\s*(?:abbrev |unfoldable |pub )*(?:(?:record|data) (\S+)|((?:[^\s(){}:;=→λ]+ )+): )", re.M)
-RATTLE = re.compile(r"\b(?:fn|struct|enum|const) (\w+)|^\s+(?:pub (\w+):|([A-Z]\w*)[ ({,])", re.M)
+RATTLE = re.compile(r"\b(?:fn|struct|enum|const|static) (\w+)|^\s+(?:pub (\w+):|([A-Z]\w*)[ ({,])", re.M)
 crates = pathlib.Path("crates")
 header = pathlib.Path("include/rivandoze.h").read_text()
 

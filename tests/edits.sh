@@ -22,7 +22,7 @@ planted() {
     grep "^FAIL edits: $2: " "$work/told" | grep -q "$1"
 }
 must 'edits: a function that is refused for another one alone is seen' planted 'climbed is not refused by itself' pwm/cmp_one_late 's,/climbed/Proof.antt,/moved/Proof.antt,'
-must 'edits: one of several changed functions that is proved is seen' planted 'write_max is not refused by itself' pwm/registers_crossed '/^fn pwm::Pwm::write_max: /s/no.*/proved/'
+must 'edits: one of several changed functions that is proved is seen' planted 'write is not refused by itself' pwm/registers_crossed '/^fn pwm::Pwm::write: /s/no.*/proved/'
 must 'edits: a refusal at a bound is seen' planted 'refused at `cast-v`, not at its promise' edition/any_edition 's/(`returns`)/(`cast-v`)/'
 must 'edits: a refusal at another need than the promise is seen' planted "climbed is refused at \`a step's need\`" pwm/cmp_one_late \
     's/no proof of `.*/no proof of `(Rattle.pwm.proofs.Pwm.climbed.Lts.s5).asks/'

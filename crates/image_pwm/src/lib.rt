@@ -4,7 +4,6 @@
 ghost use Rattle.std.specs.Prelude.{◌≡◌};
 ghost use Rattle.image_pwm.specs.How.{registers_number, registers_of, is_registers, is_quick, wave_number, wave_of, pwm_of};
 
-use bits::number;
 use pwm::{Pwm, Registers, Wave};
 
 #[tactic(auto, unfolding(crate::specs::How::registers_number))]
@@ -21,7 +20,7 @@ pub fn registers_number(g: Registers) -> u64
 pub fn wave_number(w: Wave) -> u64
     ensures { result ≡ wave_number w }
 {
-    w.counter as u64 + 65536 * (w.remainder as u64) + 16777216 * (number(w.output) as u64)
+    w.counter as u64 + 65536 * (w.remainder as u64) + 16777216 * (w.output as u64)
 }
 
 #[tactic(auto, unfolding(crate::specs::How::registers_of))]

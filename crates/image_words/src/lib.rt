@@ -6,7 +6,6 @@ ghost use Rattle.encoder_count.specs.Count.{pattern};
 ghost use Rattle.i2c.specs.I2c.{state_of, failure_number};
 ghost use Rattle.image_words.specs.How.{phase_of, failure_of, i2c_number, i2c_of, is_i2c, low_number, encoder_of, is_encoder};
 
-use bits::number;
 use encoder::Encoder;
 use i2c::I2c;
 use i2c_code::{Failure, Phase};
@@ -22,7 +21,7 @@ pub fn encoder_number(e: Encoder) -> u64
         + 4294967296 * ((e.cnfg % 256) as u64)
         + 1099511627776 * ((e.stat % 256) as u64)
         + 281474976710656 * (e.pins as u64)
-        + 72057594037927936 * (number(e.seen) as u64)
+        + 72057594037927936 * (e.seen as u64)
 }
 
 pub fn encoder_of(v: u64) -> Encoder
@@ -72,7 +71,7 @@ pub fn i2c_number(c: I2c) -> u64
     c.addr as u64
         + 256 * (c.cntl as u64)
         + 65536 * (i2c_code::state(c.phase) as u64)
-        + 16777216 * (number(c.acknowledged) as u64)
+        + 16777216 * (c.acknowledged as u64)
         + 4294967296 * (c.answer as u64)
         + 1099511627776 * (i2c_code::number(c.failure) as u64)
 }
