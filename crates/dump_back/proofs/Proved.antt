@@ -10,8 +10,7 @@ use Rattle.vcd.specs.Reader.{Reads}
 use Rattle.vcd.specs.Facts.{Shown}
 use Rattle.vcd.proofs.Orders.{all_shown}
 use Rattle.replay.specs.Replay.{replayed}
-use Rattle.made.specs.Made.{made_of, output_of}
-use Rattle.made.specs.declared.Made.{Made}
+use Rattle.made.specs.Made.{made_of, output_of, size_in}
 use Rattle.made.proofs.Makes.{whole_answer, whole_output}
 use Rattle.dump.specs.Dump.{steps_of, dump_text}
 use Rattle.dump.proofs.Views.{seen_pins, seen_ticks}
@@ -23,19 +22,19 @@ module _ (log : List ℕ) (goes : (replayed log).course ≡ going) where
   is_shown = all_shown (steps_of log) (shown_log log goes).0 (shown_log log goes).1
 
   module _ (out : List ℕ) (fits : length (dump_text log) ≤ length out) where
-    size_is : (made_of dump_text log (length out)).size ≡ length (dump_text log)
-    size_is = ap (λ (d : Made). d.size) (whole_answer dump_text log out goes fits)
+    size_is : size_in (made_of dump_text log (length out)) ≡ length (dump_text log)
+    size_is = ap size_in (whole_answer dump_text log out goes fits)
 
     after_is : output_of dump_text log out ≡ dump_text log ++ drop (length (dump_text log)) out
     after_is = whole_output dump_text log out goes fits
 
-    front : take (made_of dump_text log (length out)).size (output_of dump_text log out) ≡ dump_text log
+    front : take (size_in (made_of dump_text log (length out))) (output_of dump_text log out) ≡ dump_text log
     front = rw (size_is, after_is) (take_at (dump_text log) (drop (length (dump_text log)) out) (length (dump_text log)) refl)
 
-    beyond : drop (made_of dump_text log (length out)).size (output_of dump_text log out) ≡ drop (made_of dump_text log (length out)).size out
+    beyond : drop (size_in (made_of dump_text log (length out))) (output_of dump_text log out) ≡ drop (size_in (made_of dump_text log (length out))) out
     beyond = rw (size_is, after_is) (drop_at (dump_text log) (drop (length (dump_text log)) out) (length (dump_text log)) refl)
 
-    read : Reads (take (made_of dump_text log (length out)).size (output_of dump_text log out)) (entries_in (steps_of log))
+    read : Reads (take (size_in (made_of dump_text log (length out))) (output_of dump_text log out)) (entries_in (steps_of log))
     read = subst (λ (s : List ℕ). Reads s (entries_in (steps_of log))) (sym front) is_shown.back
 
 pub dumps : Dumps
