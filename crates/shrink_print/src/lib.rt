@@ -4,7 +4,7 @@
 ghost use Rattle.std.specs.Prelude.{◌≤◌, length};
 ghost use Rattle.outside.specs.Counts.{IsPrefixLen};
 ghost use Rattle.shrink.specs.Shrink.{smaller_of};
-ghost use Rattle.printed.specs.Printed.{MadePrinted};
+ghost use Rattle.printed.specs.Printed.{MadePrinted, size_of};
 
 use printed::Printed;
 use std::io::Input;
@@ -13,14 +13,14 @@ pub fn shrink_log(text: &mut [u8], log: &[u8]) -> Printed
     requires { 32768 ≤ length text.old }
     ensures { MadePrinted smaller_of log.now text.new result }
 {
-    let s = shrink::shrink(log, text);
-    printed::told(text, s.refused, s.index, s.size)
+    let made = shrink::shrink(log, text);
+    printed::told(text, made)
 }
 
 // The log on standard input. What is read no contract can say.
 pub fn shrink_input(rt: &impl Input, text: &mut [u8]) -> Printed
     requires { 32768 ≤ length text.old }
-    ensures { IsPrefixLen result.size text.new }
+    ensures { IsPrefixLen (size_of result) text.new }
 {
     let mut log = [0u8; 32769];
     let n = outside::read_input(rt, &mut log);
