@@ -4,10 +4,9 @@ use mathlib.Core.Path.{◌≡◌, refl, sym, ap, ◌∙◌}
 use mathlib.Core.List.{List, [], ◌∷◌, ◌++◌, append-nil, append_assoc}
 use Prim.Native.Nat.{ℕ, ◌+◌, ◌*◌, ◌≤◌, ◌<◌}
 use native.Mathlib.Omega.{arith}
-use lib.ListN.{length, get_or, set, take}
-use native.Mathlib.Numerals.{add-one}
-use lib.Seq.{sets, length-sets, length-take-le, take-suc, take_all}
-use Rattle.numbers.specs.Bytes.{byte, le_bytes}
+use lib.ListN.{length, get_or}
+use lib.Seq.{sets, length-sets}
+use Rattle.numbers.specs.Bytes.{le_bytes}
 use Rattle.codec.specs.How.{save_word, save_many}
 use Rattle.codec.proofs.Loops.{saved, saved_none, saved_more, saved_all, sets_append}
 use Rattle.encoder.specs.declared.Encoder.{Encoder}
@@ -24,31 +23,11 @@ pub same_long : (out₀ out xs : List ℕ) (at : ℕ) → out ≡ sets out₀ at
 same_long out₀ out xs at e = ap length e ∙ length-sets out₀ at xs
 
 module _ (out₀ out xs : List ℕ) (at : ℕ) (e : out ≡ sets out₀ at xs) (room : 864 ≤ length out₀) (i : ℕ) where
-  pub room_carried : i < 16 → 16 + i < length out
-  room_carried h = omega (arith, same_long out₀ out xs at e)
-
   pub room_encoders : i < 20 → 64 + 8 * i + 8 ≤ length out
   room_encoders h = omega (arith, same_long out₀ out xs at e)
 
   pub room_pwms : i < 40 → 224 + 16 * i + 16 ≤ length out
   room_pwms h = omega (arith, same_long out₀ out xs at e)
-
--- a byte after the other
-module _ (out₀ l : List ℕ) where
-  abbrev pub carried_in : ℕ → List ℕ
-  carried_in i = sets out₀ 16 (take i l)
-
-  pub carried_out : out₀ ≡ carried_in 0
-  carried_out = refl
-
-  module _ (known : length l ≡ 16) (out : List ℕ) (i : ℕ) (here : out ≡ carried_in i) where
-    pub carried_on : i < 16 → set out (16 + i) (byte l i) ≡ carried_in (i + 1)
-    carried_on h =
-        let long : length (take i l) ≡ i = length-take-le i l (omega arith) in
-        rw (here, add-one i, take-suc l i 0 (omega arith)) (sets_append out₀ (take i l) (byte l i ∷ []) 16 i long)
-
-    pub carried_done : i ≤ 16 → 16 ≤ i → out ≡ sets out₀ 16 l
-    carried_done h k = here ∙ ap (sets out₀ 16) (take_all i l (omega arith))
 
 module _ (out₀ : List ℕ) (l : List Encoder) where
   abbrev pub encoders_in : ℕ → List ℕ

@@ -7,6 +7,8 @@ use Prim.Native.Nat.{ℕ, ◌+◌, ◌/◌, ◌%◌, ◌^◌, ◌≤◌, ◌<◌
 use native.Mathlib.Omega.{arith}
 use lib.ListN.{length, take, drop, length-append, take-append-drop}
 use lib.Seq.{sets, sets-eq, length-take-le}
+use borrow.Rule.Slice.PartMut.{put_mid}
+use Rattle.std.proofs.Common.{drop-drop}
 use Rattle.numbers.specs.Bytes.{byte, le_of, le_bytes}
 use Rattle.codec.specs.How.{Bytes, save_word, save_many, load_many, Each}
 use Rattle.codec.proofs.Loops.{sets_append, many_long}
@@ -107,6 +109,13 @@ six_puts o₀ o₁ o₂ o₃ o₄ o₅ o₆ a b c d e p p₁ p₂ p₃ p₄ p₅
     ∙ sets_append (sets (sets o₀ 0 a) 8 b) c (d ++ (e ++ p)) 16 16 hc
     ∙ sets_append (sets o₀ 0 a) b (c ++ (d ++ (e ++ p))) 8 8 hb
     ∙ sets_append o₀ a (b ++ (c ++ (d ++ (e ++ p)))) 0 8 ha)
+
+-- sixteen bytes copied into their place
+pub copied : (o a b : List ℕ) → b ≡ a → length a ≡ 16 → 864 ≤ length o → put_mid 16 16 o b ≡ sets o 16 a
+copied o a b same long room =
+    ap (put_mid 16 16 o) same
+    ∙ ap (λ (l : List ℕ). take 16 o ++ (a ++ l)) (drop-drop 16 16 o ∙ ap (λ (n : ℕ). drop n o) (let e : 16 + 16 ≡ 16 + length a = omega (arith, long) in e))
+    ∙ sym (sets-eq a o 16 (omega (arith, long)) ∙ append_assoc (take 16 o) a (drop (16 + length a) o))
 
 whole_image : (o im : List ℕ) → length im ≡ 864 → 864 ≤ length o → sets o 0 im ≡ im ++ drop 864 o
 whole_image o im h k = sets-eq im o 0 (omega arith) ∙ ap (λ (n : ℕ). im ++ drop n o) (let e : 0 + length im ≡ 864 = omega arith in e)

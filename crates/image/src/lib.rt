@@ -89,16 +89,6 @@ fn head_number(refused: Option<Refusal>, held: usize, edition: u64) -> u64
     number as u64 + 256 * (held as u64) + 65536 * edition
 }
 
-fn save_carried(a: [u8; 16], out: &mut [u8])
-    requires { size ≤ length out.old }
-    ensures out_after { out.new ≡ sets out.old 16 a }
-    ensures a_len { length a ≡ 16 }
-{
-    for i in 0..16 {
-        out[16 + i] = a[i];
-    }
-}
-
 // SELECT and the I2C of each bank.
 fn save_firsts(f: Flat, out: &mut [u8])
     requires { size ≤ length out.old }
@@ -150,14 +140,10 @@ pub fn save(x: Stream, out: &mut [u8])
     requires saves { Saves x }
     ensures { out.new ≡ image_of (live_of x) ++ drop size out.old }
 {
-    let f = x.flat;
-    let encoders = f.encoders;
-    let pwms = f.pwms;
-    let carried = x.carried;
     put64(out, 0, head_number(x.refused, x.held, x.edition));
     put64(out, 8, x.applied);
-    save_carried(carried, out);
-    save_firsts(f, out);
-    save_encoders(encoders, out);
-    save_pwms(pwms, out);
+    out[16..32].copy_from_slice(&x.carried);
+    save_firsts(x.flat, out);
+    save_encoders(x.flat.encoders, out);
+    save_pwms(x.flat.pwms, out);
 }
