@@ -21,14 +21,13 @@ planted() {
     sed "\\,^== $2\$,,/^== /{$3}" "$work/lines" >"$work/planted" && ! cmp -s "$work/lines" "$work/planted" && python3 check/edits.py "$work/planted" >"$work/told"
     grep "^FAIL edits: $2: " "$work/told" | grep -q "$1"
 }
-must 'edits: a function that is refused for another one alone is seen' planted 'climbed is not refused by itself' pwm/cmp_one_late 's,/climbed/Proof.antt,/moved/Proof.antt,'
+must 'edits: a function that is refused for another one alone is seen' planted 'climbed is not refused by itself' pwm/cmp_one_late \
+    "s,src/lib.rt:[0-9]*:,src/lib.rt:$(awk '/fn fresh/ { print NR; exit }' crates/pwm/src/lib.rt):,"
 must 'edits: one of several changed functions that is proved is seen' planted 'write is not refused by itself' pwm/registers_crossed '/^fn pwm::Pwm::write: /s/no.*/proved/'
 must 'edits: a refusal at a bound is seen' planted 'refused at `cast-v`, not at its promise' edition/any_edition 's/(`returns`)/(`cast-v`)/'
-must 'edits: a refusal at another need than the promise is seen' planted "climbed is refused at \`a step's need\`" pwm/cmp_one_late \
-    's/no proof of `.*/no proof of `(Rattle.pwm.proofs.Pwm.climbed.Lts.s5).asks/'
-must 'edits: a refusal at what a call asks is seen' planted "climbed is refused at \`a step's need\`" pwm/cmp_one_late "s/Proof.antt:[0-9]*:[0-9]*:/Proof.antt:$(
-    awk -F'λ c κs. ' 'NF > 1 { print NR ":" length($1) + 8; exit }' crates/pwm/proofs/Pwm/climbed/Proof.antt):/"
-must 'edits: a refusal for its shape is seen' planted 'refused for its shape' pwm/cmp_one_late 's/: error: /&`rw`: no occurrence of it; /'
+must 'edits: a refusal at another need than the promise is seen' planted 'climbed is refused at `overflow_add-k`' pwm/cmp_one_late 's/(`returns`)/(`overflow_add-k`)/'
+must 'edits: a refusal at what a call asks is seen' planted 'climbed is refused at `moved-requires`' pwm/cmp_one_late 's/(`returns`)/(`moved-requires`)/'
+must 'edits: a refusal for its shape is seen' planted 'refused for its shape' pwm/cmp_one_late 's/it is not proved that/& `rw`: no occurrence of it;/'
 must 'edits: an edit that cannot be applied is seen' planted 'BAD EDIT' pwm/cmp_one_late 's/^refused.*/BAD EDIT: it changes nothing/'
 must 'edits: an edit that is not refused is seen' planted 'NOT REFUSED' pwm/cmp_one_late 's/^refused.*/NOT REFUSED: the crate is still proved/'
 must 'edits: one of which nothing is said is seen' planted 'nothing is told of it' pwm/cs_7_off 's/^== .*cs_7_off$/== pwm\/other/'

@@ -16,15 +16,14 @@ pub struct Bank {
     pub i2c: I2c,
 }
 
+#[tactic(auto, unfolding(crate::specs::Bank::fresh))]
 pub fn fresh() -> Bank
     ensures { result ≡ fresh }
 {
-    let e = Encoder::fresh();
-    let p = Pwm::fresh();
     Bank {
         select: 0,
-        encoders: [e; 10],
-        pwms: [p; 20],
+        encoders: [Encoder::fresh(); 10],
+        pwms: [Pwm::fresh(); 20],
         i2c: I2c::fresh(),
     }
 }

@@ -27,8 +27,9 @@ pub struct Flat {
 pub fn fresh() -> State
     ensures { result ≡ fresh }
 {
-    let b = bank::fresh();
-    State { banks: [b; 2] }
+    State {
+        banks: [bank::fresh(); 2],
+    }
 }
 
 // As `copy_from_slice` does, which takes three times the instructions.
@@ -57,14 +58,11 @@ fn laid(f: Flat, k: usize, b: Bank) -> Flat
 pub fn laid_out(s: State) -> Flat
     ensures { state_of result ≡ s }
 {
-    let e = Encoder::fresh();
-    let p = Pwm::fresh();
-    let c = I2c::fresh();
     let f = Flat {
         selects: [0; 2],
-        encoders: [e; 20],
-        pwms: [p; 40],
-        i2cs: [c; 2],
+        encoders: [Encoder::fresh(); 20],
+        pwms: [Pwm::fresh(); 40],
+        i2cs: [I2c::fresh(); 2],
     };
     let a = s.banks[0];
     let b = s.banks[1];
