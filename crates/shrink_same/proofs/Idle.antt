@@ -15,7 +15,9 @@ use Rattle.numbers.specs.Bytes.{byte, le_of}
 use Rattle.wire.specs.Decode.{bank_of, decode_of}
 use Rattle.records.specs.declared.Record.{Record}
 use Rattle.records.specs.declared.Record.TheVariants.{WriteSelect, WriteEncoder, WritePwm, WriteI2c, Answer, ReadSelect, ReadEncoder, ReadPwm, ReadI2c, Pins, Ticks}
-use Rattle.records.specs.declared.Decoded.TheVariants.{Names}
+use Rattle.std.specs.Prelude.{Option, Ok}
+use Rattle.refused.specs.declared.Refusal.{Refusal}
+use Rattle.refused.specs.declared.Refusal.TheVariants.{NotRouted}
 use Rattle.wire.proofs.Formed.{Formed}
 use Rattle.wire.proofs.Known.{ticks_named}
 use Rattle.encoder.specs.declared.Encoder.{Encoder}
@@ -35,14 +37,15 @@ use Rattle.travel.proofs.Events.{Event, pins, config, route, nothing, event_at}
 use Rattle.travel.proofs.Counting.{Channel, on_event}
 use Rattle.travel.proofs.Banks.{Sound, view_at, turn_view, sound_turn, sound_fresh}
 use Rattle.shrink_rule.specs.Drops.{shows, drops}
-use Rattle.shrink_rule.specs.How.{sort_of, none, drops_by, learns_by, rule}
+use Rattle.event.specs.Event.{event_of}
+use Rattle.shrink_rule.specs.How.{none, drops_by, learns_by, rule}
 use Rattle.shrink_rule.proofs.Sorts.{Row, row}
 use Rattle.shrink.proofs.Applied.{applied_row}
 use Rattle.shrink_rule.proofs.Same.{Agrees, agrees_first, learns_next, same_drops}
 use Rattle.shrink_same.proofs.Again.{pins_twice, not_ticked, map_itself}
 
 -- what is shown of an encoder would change nothing
-pub record Fits (m : List ℕ) (s : State) : Type 0 where
+pub record Fits (m : List (Option ℕ)) (s : State) : Type 0 where
   pub sound : Both Sound s
   pub before : List (List ℕ)
   pub agrees : Agrees m before
@@ -68,7 +71,7 @@ pins_only r (ReadPwm i g) f k = absurd (omega (arith, k, f.0.is_kind))
 pins_only r (ReadI2c g) f k = absurd (omega (arith, k, f.0.is_kind))
 pins_only r (Ticks t) f k = absurd (omega (arith, k, f.0.is_kind))
 
-passed : {S A : Type 0} (t : Bool) (x : Turn S A) (k : ℕ) → applies (cond t x (refused k)) ≡ true → cond t x (refused k) ≡ x
+passed : {S A : Type 0} (t : Bool) (x : Turn S A) (k : Refusal) → applies (cond t x (refused k)) ≡ true → cond t x (refused k) ≡ x
 passed true x k h = refl
 passed false x k h = absurd (false≢true h)
 
@@ -87,13 +90,13 @@ module _ (o : Edition) (s : State) (r : List ℕ) (before : List (List ℕ)) (dr
       let h = both_true (eqb (byte r 0) 3) (shows (bank_of r) (byte r 2) (le_of 8 r 8) before) (rw (ne_eqb (byte r 0) 4 d) at dropped) in
       (eqb-true (byte r 0) 3 h.0, h.1)
 
-  idle_ticks : (x : Record) → decode_of o r ≡ Names x → byte r 0 ≡ 4 → ticking o s r x ≡ goes s
+  idle_ticks : (x : Record) → decode_of o r ≡ Ok x → byte r 0 ≡ 4 → ticking o s r x ≡ goes s
   unfolding bank.turn_of
   idle_ticks x e k =
       ap (λ (y : Record). ticking o s r y) (ticks_named o r x e k ∙ ap Ticks (of_zero k))
       ∙ ap goes (ap {B = State} (λ (l : List Bank). record { banks = l }) (map_itself (λ b. leaves b (bank.turn_of o b (Ticks 0))) (λ b. not_ticked o b) s.banks))
 
-  idle_pins : (x : Record) → decode_of o r ≡ Names x → (byte r 0 ≡ 4 → ⊥) → Row r x
+  idle_pins : (x : Record) → decode_of o r ≡ Ok x → (byte r 0 ≡ 4 → ⊥) → Row r x
       → encoder.on_pins (le_of 8 r 8) (encoder_at (byte r 2) (bank_at (bank_of r) s)) ≡ encoder_at (byte r 2) (bank_at (bank_of r) s)
       → applies (banking o s r x) ≡ true → banking o s r x ≡ goes s
   unfolding bank.turn_of
@@ -103,7 +106,7 @@ module _ (o : Edition) (s : State) (r : List ℕ) (before : List (List ℕ)) (dr
       let done : Turn Bank ℕ = goes (with_encoder (byte r 2) b (encoder.on_pins (le_of 8 r 8) (encoder_at (byte r 2) b))) in
       ap (λ (y : Record). banking o s r y) is
       ∙ ap (lift (with_bank (bank_of r) s))
-      (passed (encoder_routed o.port b.select (byte r 2)) done 9 (sym (lift_applies (with_bank (bank_of r) s) (bank.turn_of o b (Pins (byte r 2) (le_of 8 r 8)))) ∙ ap (λ (y : Record). applies (banking o s r y)) (sym is) ∙ a))
+      (passed (encoder_routed o.port b.select (byte r 2)) done NotRouted (sym (lift_applies (with_bank (bank_of r) s) (bank.turn_of o b (Pins (byte r 2) (le_of 8 r 8)))) ∙ ap (λ (y : Record). applies (banking o s r y)) (sym is) ∙ a))
       ∙ ap (λ (y : Encoder). goes (with_bank (bank_of r) s (with_encoder (byte r 2) b y))) still
       ∙ ap (λ (es : List Encoder). goes (with_bank (bank_of r) s (record { select = b.select; encoders = es; pwms = b.pwms; i2c = b.i2c }))) (set-get_or b.encoders (byte r 2) encoder.fresh)
       ∙ ap goes (sym (bank_itself (bank_of r) s))
@@ -112,7 +115,7 @@ module _ (o : Edition) (s : State) (r : List ℕ) (before : List (List ℕ)) (dr
 pins_ten : (r : List ℕ) (x : Record) → Row r x → byte r 0 ≡ 3 → byte r 2 < 10
 pins_ten r x w k = (subst (λ (y : Record). Formed r y) (pins_only r x w.says k) w.says).1
 
-idle : (o : Edition) (m : List ℕ) (s : State) (r : List ℕ) → Fits m s → drops_by m (sort_of r) ≡ true → applies (turn_of o s r) ≡ true → turn_of o s r ≡ goes s
+idle : (o : Edition) (m : List (Option ℕ)) (s : State) (r : List ℕ) → Fits m s → drops_by m (event_of r) ≡ true → applies (turn_of o s r) ≡ true → turn_of o s r ≡ goes s
 idle o m s r f d =
     by_turn o s r (λ t. applies t ≡ true → t ≡ goes s) (λ n e a. absurd (false≢true a)) (λ x e k a. idle_ticks o s r f.before (dropped x e) x e k)
     (λ x e k a.
@@ -120,7 +123,7 @@ idle o m s r f d =
     let p = of_pins o s r f.before (dropped x e) k in
     idle_pins o s r f.before (dropped x e) x e k w (f.recalls (bank_of r) (byte r 2) (le_of 8 r 8) w.bank (pins_ten r x w p.0) p.1) a)
   where
-    dropped : (x : Record) → decode_of o r ≡ Names x → drops f.before r ≡ true
+    dropped : (x : Record) → decode_of o r ≡ Ok x → drops f.before r ≡ true
     dropped x e = same_drops m f.before r f.agrees x (row o r x e) ∙ d
 
 -- ---- what stays
@@ -148,8 +151,8 @@ shows_event port k i v r before =
     by true false false false z = refl
     by false a b c z = refl
 
-learns : (o : Edition) (m : List ℕ) (s : State) (r : List ℕ) → Fits m s → drops_by m (sort_of r) ≡ false → applies (turn_of o s r) ≡ true
-    → Fits (learns_by m (sort_of r)) (leaves s (turn_of o s r))
+learns : (o : Edition) (m : List (Option ℕ)) (s : State) (r : List ℕ) → Fits m s → drops_by m (event_of r) ≡ false → applies (turn_of o s r) ≡ true
+    → Fits (learns_by m (event_of r)) (leaves s (turn_of o s r))
 unfolding shows_by
 learns o m s r f d a =
     let x = applied_row o s r a in

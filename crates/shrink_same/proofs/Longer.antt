@@ -15,7 +15,7 @@ use Rattle.encoder.specs.Encoder.{counts_in_quadrature}
 use Rattle.encoder.proofs.Counting.{pins_cnfg}
 use Rattle.numbers.specs.Bytes.{byte, le_of}
 use Rattle.wire.specs.Decode.{bank_of, decode_of}
-use Rattle.records.specs.declared.Decoded.TheVariants.{Names}
+use Rattle.std.specs.Prelude.{Ok}
 use Rattle.records.specs.declared.Record.TheVariants.{Pins}
 use Rattle.wire.proofs.Formed.{formed, bank_formed}
 use Rattle.banks.specs.declared.State.{State}
@@ -195,7 +195,7 @@ module _ (o : Edition) (k i : ℕ) (before : List (List ℕ)) (r : List ℕ) (rs
   unfolding s₀
   sound = laws.keeps (turn_of o) (Both Sound) (sound_turn o) fresh e sound_fresh
 
-  decoded : decode_of o f.p ≡ Names (Pins i (le_of 8 f.p 8))
+  decoded : decode_of o f.p ≡ Ok (Pins i (le_of 8 f.p 8))
   decoded = turn_pins o k i s₀ f.p f.is_pins (goes_applies (turn_of o) s₀ f.p (laws.first_goes (turn_of o) s₀ (f.p ∷ []) mids rest))
 
   in_ten : i < 10

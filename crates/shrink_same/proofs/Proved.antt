@@ -16,7 +16,9 @@ use Rattle.edition.specs.declared.Edition.{Edition}
 use Rattle.wire.specs.Decode.{reads_in}
 use Rattle.trailer.specs.Trailer.{trailer_of, records_at, records_of, edition_at, edition_in}
 use Rattle.trailer.specs.declared.Trailer.{Trailer}
-use Rattle.trailer.specs.declared.Trailer.TheVariants.{Found, Refused}
+use Rattle.std.specs.Prelude.{Result, Ok, Err}
+use Rattle.refused.specs.declared.Refusal.{Refusal}
+use Rattle.refused.specs.declared.Refusal.TheVariants.{OutputTooShort}
 use Rattle.trailer.proofs.Laws.{ends}
 use Rattle.banks.specs.declared.State.{State}
 use Rattle.banks.specs.State.{fresh}
@@ -40,7 +42,7 @@ use Rattle.shrink_same.proofs.Bytes.{is_known, new_trailer, new_records, new_not
 
 -- ---- a log that replays, and its trailer
 
-module _ (log : List ℕ) (room : ℕ) (goes : (replay_of log room).course ≡ going) (a n e : ℕ) (f : trailer_of log ≡ Found a n e) where
+module _ (log : List ℕ) (room : ℕ) (goes : (replay_of log room).course ≡ going) (t : Trailer) (f : trailer_of log ≡ Ok t) where
   abbrev rs : List (List ℕ)
   rs = records_of log
 
@@ -53,53 +55,59 @@ module _ (log : List ℕ) (room : ℕ) (goes : (replay_of log room).course ≡ g
   plays : (played o rs).course ≡ going
   plays = sym (ap (λ (x : Run State ℕ). x.course) run) ∙ goes
 
-  here : rs ≡ records 16 n (drop a log)
-  here = ap (λ (t : Trailer). records_at t log) f
+  here : rs ≡ records 16 t.count (drop t.start log)
+  here = ap (λ (u : Result Trailer Refusal). records_at u log) f
 
   has_room : 8 * reads_in rs ≤ room
   unfolding replay_of replay_from play_of
-  has_room = rw here (by (leb (8 * reads_in (records 16 n (drop a log))) room) refl)
+  has_room = rw here (by (leb (8 * reads_in (records 16 t.count (drop t.start log))) room) refl)
     where
-      by : (t : Bool) → leb (8 * reads_in (records 16 n (drop a log))) room ≡ t → 8 * reads_in (records 16 n (drop a log)) ≤ room
-      by true h = leb-true (8 * reads_in (records 16 n (drop a log))) room h
+      by : (b : Bool) → leb (8 * reads_in (records 16 t.count (drop t.start log))) room ≡ b → 8 * reads_in (records 16 t.count (drop t.start log)) ≤ room
+      by true h = leb-true (8 * reads_in (records 16 t.count (drop t.start log))) room h
       by false h =
-          let there = ap (λ (t : Trailer). (replay_from t log room).course) f in
-          let six = ap (λ (t : Bool). (cond t (played (edition_of e) (records 16 n (drop a log))) (halted fresh 0 [] 6)).course) h in
-          absurd (halts 6 (sym (there ∙ six) ∙ goes))
+          let there = ap (λ (u : Result Trailer Refusal). (replay_from u log room).course) f in
+          let six = ap (λ (b : Bool). (cond b (played (edition_of t.edition) (records 16 t.count (drop t.start log))) (halted fresh 0 [] OutputTooShort)).course) h in
+          absurd (halts OutputTooShort (sym (there ∙ six) ∙ goes))
 
-  is_log : smaller_of log ≡ log_of (take a log) (flatten (kept [] rs)) e
-  is_log = ap (λ (t : Trailer). smaller_at t log) f ∙ ap (λ (l : List (List ℕ)). log_of (take a log) (flatten (kept [] l)) e) (sym here)
+  is_log : smaller_of log ≡ log_of (take t.start log) (flatten (kept [] rs)) t.edition
+  is_log = ap (λ (u : Result Trailer Refusal). smaller_at u log) f ∙ ap (λ (l : List (List ℕ)). log_of (take t.start log) (flatten (kept [] l)) t.edition) (sym here)
 
   whole : Sixteen (kept [] rs)
   whole =
-      subst Sixteen (sym (log_kept log room goes ∙ ap (fold.kept rule none) here)) (sixteen log a n (log_ready log room goes a n e f))
+      subst Sixteen (sym (log_kept log room goes ∙ ap (fold.kept rule none) here)) (sixteen log t.start t.count (log_ready log room goes t f))
 
   less : length (smaller_of log) ≤ length log
-  less = rw (log_smaller log room goes a n e f) (shorter log a n (log_ready log room goes a n e f) e log)
+  less = rw (log_smaller log room goes t f) (shorter log t.start t.count (log_ready log room goes t f) t.edition log)
 
-  short : length (log_of (take a log) (flatten (kept [] rs)) e) ≤ 32768
-  short = omega (arith, less, ends log a n e f, ap length is_log)
+  short : length (log_of (take t.start log) (flatten (kept [] rs)) t.edition) ≤ 32768
+  short = omega (arith, less, ends log t f, ap length is_log)
 
-  notes : length (take a log) ≡ a
-  notes = sym (notes_count log a n (log_ready log room goes a n e f))
+  notes : length (take t.start log) ≡ t.start
+  notes = sym (notes_count log t.start t.count (log_ready log room goes t f))
 
-  its_trailer : trailer_of (smaller_of log) ≡ Found a (length (kept [] rs)) e
-  its_trailer = ap trailer_of is_log ∙ new_trailer (take a log) (kept [] rs) e whole (is_known log a n e f) short ∙ ap (λ (b : ℕ). Found b (length (kept [] rs)) e) notes
+  -- the trailer that the smaller log has
+  abbrev its : Trailer
+  its = record { start = t.start; count = length (kept [] rs); edition = t.edition }
 
-  its_notes : take a (smaller_of log) ≡ take a log
+  its_trailer : trailer_of (smaller_of log) ≡ Ok its
+  its_trailer =
+      ap trailer_of is_log ∙ new_trailer (take t.start log) (kept [] rs) t.edition whole (is_known log t f) short
+      ∙ ap {B = Result Trailer Refusal} (λ (b : ℕ). Ok (record { start = b; count = length (kept [] rs); edition = t.edition })) notes
+
+  its_notes : take t.start (smaller_of log) ≡ take t.start log
   its_notes =
-      ap (take a) is_log ∙ ap (λ (b : ℕ). take b (log_of (take a log) (flatten (kept [] rs)) e)) (sym notes)
-      ∙ new_notes (take a log) (kept [] rs) e whole (is_known log a n e f) short
+      ap (take t.start) is_log ∙ ap (λ (b : ℕ). take b (log_of (take t.start log) (flatten (kept [] rs)) t.edition)) (sym notes)
+      ∙ new_notes (take t.start log) (kept [] rs) t.edition whole (is_known log t f) short
 
   its_records : records_of (smaller_of log) ≡ kept [] rs
-  its_records = ap records_of is_log ∙ new_records (take a log) (kept [] rs) e whole (is_known log a n e f) short
+  its_records = ap records_of is_log ∙ new_records (take t.start log) (kept [] rs) t.edition whole (is_known log t f) short
 
   its_edition : edition_in (smaller_of log) ≡ o
   its_edition = ap edition_at its_trailer ∙ sym (ap edition_at f)
 
   its_replay : replay_of (smaller_of log) room ≡ under (replay_of log room).state (length (kept [] rs)) (replay_of log room).readings
   its_replay =
-      replay.replayed (smaller_of log) a (length (kept [] rs)) e room its_trailer (omega (arith, has_room, fewer_reads o rs plays, ap reads_in its_records))
+      replay.replayed (smaller_of log) its room its_trailer (omega (arith, has_room, fewer_reads o rs plays, ap reads_in its_records))
       ∙ ap (λ (x : Edition). played x (records_of (smaller_of log))) its_edition
       ∙ ap (played o) its_records
       ∙ same_run o rs plays
@@ -107,30 +115,30 @@ module _ (log : List ℕ) (room : ℕ) (goes : (replay_of log room).course ≡ g
 
   same_again : smaller_of (smaller_of log) ≡ smaller_of log
   same_again =
-      ap (λ (t : Trailer). smaller_at t (smaller_of log)) its_trailer
-      ∙ ap (λ (l : List (List ℕ)). log_of (take a (smaller_of log)) (flatten (kept [] l)) e) (sym (ap (λ (t : Trailer). records_at t (smaller_of log)) its_trailer) ∙ its_records)
-      ∙ ap (λ (l : List (List ℕ)). log_of (take a (smaller_of log)) (flatten l) e) (kept_twice o rs plays)
-      ∙ ap (λ (l : List ℕ). log_of l (flatten (kept [] rs)) e) its_notes
+      ap (λ (u : Result Trailer Refusal). smaller_at u (smaller_of log)) its_trailer
+      ∙ ap (λ (l : List (List ℕ)). log_of (take t.start (smaller_of log)) (flatten (kept [] l)) t.edition) (sym (ap (λ (u : Result Trailer Refusal). records_at u (smaller_of log)) its_trailer) ∙ its_records)
+      ∙ ap (λ (l : List (List ℕ)). log_of (take t.start (smaller_of log)) (flatten l) t.edition) (kept_twice o rs plays)
+      ∙ ap (λ (l : List ℕ). log_of l (flatten (kept [] rs)) t.edition) its_notes
       ∙ sym is_log
 
 -- a log that replays has a trailer
-found_one : (log : List ℕ) (room : ℕ) → (replay_of log room).course ≡ going → (P : Type 0) → ((a n e : ℕ) → trailer_of log ≡ Found a n e → P) → P
+found_one : (log : List ℕ) (room : ℕ) → (replay_of log room).course ≡ going → (P : Type 0) → ((t : Trailer) → trailer_of log ≡ Ok t → P) → P
 unfolding replay_of replay_from
 found_one log room goes P h = by (trailer_of log) refl
   where
-    by : (t : Trailer) → trailer_of log ≡ t → P
-    by (Found a n e) f = h a n e f
-    by (Refused k) f = absurd (halts k (sym (ap (λ (t : Trailer). (replay_from t log room).course) f) ∙ goes))
+    by : (r : Result Trailer Refusal) → trailer_of log ≡ r → P
+    by (Ok t) f = h t f
+    by (Err k) f = absurd (halts k (sym (ap (λ (r : Result Trailer Refusal). (replay_from r log room).course) f) ∙ goes))
 
 pub all_same : (log : List ℕ) (room : ℕ) (goes : (replay_of log room).course ≡ going) → Same log room goes
 all_same log room goes =
-    found_one log room goes (Same log room goes) λ a n e f.
+    found_one log room goes (Same log room goes) λ t f.
     record {
-      trailer = λ b m u g. (its_trailer log room goes b m u g, its_notes log room goes b m u g);
-      records = its_records log room goes a n e f;
-      replay = its_replay log room goes a n e f;
-      again = same_again log room goes a n e f;
-      shorter = less log room goes a n e f;
+      trailer = λ u g. (its_trailer log room goes u g, its_notes log room goes u g);
+      records = its_records log room goes t f;
+      replay = its_replay log room goes t f;
+      again = same_again log room goes t f;
+      shorter = less log room goes t f;
     }
 
 -- ---- the stretches
@@ -157,16 +165,16 @@ module _ (o : Edition) (k i : ℕ) (r : List ℕ) (before rs : List (List ℕ)) 
 kept_stretch : (k i : ℕ) (log r : List ℕ) (before rs later : List (List ℕ)) (room : ℕ) → (replay_of log room).course ≡ going
     → records_of log ≡ before ++ r ∷ rs ++ later → Stretch (edition_in log) k i before r rs → drops (reverse before) r ≡ false → Kept k i log r rs
 kept_stretch k i log r before rs later room goes is st d =
-    found_one log room goes (Kept k i log r rs) λ a n e f.
+    found_one log room goes (Kept k i log r rs) λ t f.
     record {
       before = kept [] before;
       first = r;
       stay = kept (r ∷ reverse before) rs;
       later = kept (reverse (before ++ r ∷ rs)) later;
       cut =
-          its_records log room goes a n e f ∙ ap (kept []) is ∙ kept_cut [] (before ++ r ∷ rs) later
+          its_records log room goes t f ∙ ap (kept []) is ∙ kept_cut [] (before ++ r ∷ rs) later
           ∙ ap (λ (l : List (List ℕ)). l ++ kept (reverse (before ++ r ∷ rs)) later) (cut (edition_in log) k i r before rs st d);
-      stretch = subst (λ (o : Edition). Stretch o k i (kept [] before) r (kept (r ∷ reverse before) rs)) (sym (its_edition log room goes a n e f)) (still_stretch (edition_in log) k i r before rs st d);
+      stretch = subst (λ (o : Edition). Stretch o k i (kept [] before) r (kept (r ∷ reverse before) rs)) (sym (its_edition log room goes t f)) (still_stretch (edition_in log) k i r before rs st d);
       same_steps = steps_kept k i r (reverse before) rs st.begins;
       same_doubles = doubles_kept k i r (reverse before) rs st.begins;
     }

@@ -1,8 +1,8 @@
 -- What is shown of the smaller log, of any log that replays without refusal. Assumes nothing.
-use Rattle.std.specs.Prelude.{ℕ, ◌≤◌, ◌≡◌, List, [], ◌∷◌, ◌++◌, length, take}
+use Rattle.std.specs.Prelude.{ℕ, ◌≤◌, ◌≡◌, List, [], ◌∷◌, ◌++◌, Ok, length, take}
 use Rattle.fold.specs.Run.{going, under}
 use Rattle.trailer.specs.Trailer.{trailer_of, records_of, edition_in}
-use Rattle.trailer.specs.declared.Trailer.TheVariants.{Found}
+use Rattle.trailer.specs.declared.Trailer.{Trailer}
 use Rattle.replay.specs.Replay.{replay_of}
 use Rattle.shaft.specs.Shaft.{doubles, steps}
 use Rattle.travel.specs.Stretch.{pins_in, Stretch}
@@ -11,8 +11,9 @@ use Rattle.shrink_rule.specs.Drops.{kept}
 
 pub record Same (log : List ℕ) (room : ℕ) (goes : (replay_of log room).course ≡ going) : Type 0 where
   -- "The smaller log has the same edition"; "notes are kept"
-  pub trailer : (a n e : ℕ) → trailer_of log ≡ Found a n e
-      → (trailer_of (smaller_of log) ≡ Found a (length (kept [] (records_of log))) e) × (take a (smaller_of log) ≡ take a log)
+  pub trailer : (t : Trailer) → trailer_of log ≡ Ok t
+      → (trailer_of (smaller_of log) ≡ Ok (record { start = t.start; count = length (kept [] (records_of log)); edition = t.edition }))
+      × (take t.start (smaller_of log) ≡ take t.start log)
   -- its records are those that the rule keeps
   pub records : records_of (smaller_of log) ≡ kept [] (records_of log)
   -- "the same readings and the same end state", both banks; all of its records are applied
