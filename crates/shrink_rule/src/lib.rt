@@ -10,7 +10,7 @@ use event::Event;
 // What is remembered is each encoder's previous pins, where no write to its CNFG or its SELECT lies between.
 
 // A write to a bank's SELECT.
-fn forget(last: &mut [Option<u64>; 20], bank: usize)
+fn forget(last: &mut [Option<u8>; 20], bank: usize)
     requires { length last.old ≡ 20 }
     ensures { last.new ≡ forgotten bank last.old }
 {
@@ -22,7 +22,7 @@ fn forget(last: &mut [Option<u64>; 20], bank: usize)
 }
 
 // Whether a record is dropped; one that stays is remembered.
-pub fn drops(last: &mut [Option<u64>; 20], event: Event) -> bool
+pub fn drops(last: &mut [Option<u8>; 20], event: Event) -> bool
     requires last_len { length last.old ≡ 20 }
     requires good_event { GoodEvent event }
     ensures value { result ≡ drops_by last.old event }
@@ -31,10 +31,11 @@ pub fn drops(last: &mut [Option<u64>; 20], event: Event) -> bool
     match event {
         Event::Wait(ticks) => ticks == 0,
         Event::Pins { encoder, value } => {
-            if last[encoder] == Some(value) {
+            let pins = value as u8;
+            if last[encoder] == Some(pins) {
                 return true;
             }
-            last[encoder] = Some(value);
+            last[encoder] = Some(pins);
             false
         }
         Event::Config { encoder, .. } => {

@@ -1,10 +1,10 @@
 // What is kept of one encoder while its stretches are found, and what ends a stretch.
 #![tactic(auto)]
 
-ghost use Rattle.std.specs.Prelude.{◌≡◌, true, cond, None};
+ghost use Rattle.std.specs.Prelude.{◌≡◌, true};
 ghost use Rattle.laws.specs.Each.{map_from};
 ghost use Rattle.encoder.specs.Encoder.{counts_in_quadrature};
-ghost use Rattle.sign_line.specs.How.{no_line, configured_line, routed_line, rerouted_line};
+ghost use Rattle.sign_line.specs.How.{no_line, configured_line, rerouted_line};
 
 // A stretch that runs: its last pins, and the place of its entry among all. Its sums stand where its entry will.
 #[derive(Clone, Copy)]
@@ -35,29 +35,12 @@ fn counts(cnfg: u64) -> bool
     (cnfg % 2 == 1) & (!(cnfg / 2 % 2 == 1) & !(cnfg / 4 % 2 == 1))
 }
 
-fn kept(stretch: Option<Stretch>, still: bool) -> Option<Stretch>
-    ensures { result ≡ cond still stretch None }
-{
-    if still { stretch } else { None }
-}
-
 pub fn configured(l: Line, cnfg: u64) -> Line
     ensures { result ≡ configured_line cnfg l }
 {
     let counts = counts(cnfg);
-    Line {
-        counts,
-        stretch: kept(l.stretch, counts),
-    }
-}
-
-fn routed(l: Line, still: bool) -> Line
-    ensures { result ≡ routed_line still l }
-{
-    Line {
-        stretch: kept(l.stretch, still),
-        ..l
-    }
+    let stretch = if counts { l.stretch } else { None };
+    Line { counts, stretch }
 }
 
 // A write to a bank's SELECT ends the stretches of the encoders that it does not route.
@@ -65,7 +48,8 @@ pub fn reroute(lines: &mut [Line; 20], bank: usize, port: bool, select: u64)
     ensures { lines.new ≡ map_from (rerouted_line port bank select) 0 lines.old }
 {
     for e in 0..20 {
-        let still = !(e / 10 == bank) | select::encoder_routed(port, select, e % 10);
-        lines[e] = routed(lines[e], still);
+        if e / 10 == bank && !select::encoder_routed(port, select, e % 10) {
+            lines[e].stretch = None;
+        }
     }
 }
