@@ -8,7 +8,8 @@ use lib.Seq.{take_at}
 use Rattle.decimal.specs.Put.{Put}
 use Rattle.numbers.specs.Bytes.{le_bytes}
 use Rattle.fold.specs.declared.Stop.{Stop}
-use Rattle.fold.specs.Output.{number_of, bytes_of, over, stop_of, output_of}
+use Rattle.refused.specs.Number.{number_of}
+use Rattle.fold.specs.Output.{refusal_of, bytes_of, over, stop_of, output_of}
 use Rattle.replay.specs.Replay.{replay_of}
 use Rattle.image_kept.proofs.Replayed.{replay_small}
 use Rattle.transcript.proofs.Numbers.{in_bytes}
@@ -36,13 +37,13 @@ module _ (log : List ℕ) (room : ℕ) (stop : Stop) (out out' : List ℕ) (s : 
   back = readings_back (replay_of log room).readings (replay_small log room)
 
   module _ (e : room ≡ 16_384) where
-    pub said : (text text' : List ℕ) (n : ℕ) → Put text 0 (text_of (readings_in (take (8 * stop.readings) out')) stop.applied stop.refused) text' n
+    pub said : (k : ℕ) → k ≡ number_of stop.refused → (text text' : List ℕ) (n : ℕ) → Put text 0 (text_of (readings_in (take (8 * stop.readings) out')) stop.applied k) text' n
         → Put text 0 (said_of log) text' n
     unfolding said_of stop_of
-    said text text' n x = rw (← e) (rw (theirs, back, s) at x)
+    said k q text text' n x = rw (← e) (rw (q, theirs, back, s) at x)
 
-    pub room_enough : length out' ≡ 16_384 → stop.applied < 2 ^ 64 → stop.refused < 2 ^ 64 → length (said_of log) ≤ 43_066
+    pub room_enough : length out' ≡ 16_384 → stop.applied < 2 ^ 64 → number_of stop.refused < 2 ^ 64 → length (said_of log) ≤ 43_066
     unfolding said_of stop_of bytes
     room_enough h p q =
         let t = replay_of log room in
-        rw (← e, ← back) (omega (arith, few log room stop out out' s o, long, text_below bytes t.applied (number_of t.course) (in_bytes t.readings) (rw s at p) (rw s at q)))
+        rw (← e, ← back) (omega (arith, few log room stop out out' s o, long, text_below bytes t.applied (number_of (refusal_of t.course)) (in_bytes t.readings) (rw s at p) (rw s at q)))

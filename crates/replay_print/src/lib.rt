@@ -1,12 +1,24 @@
 // What `rvz` alone prints: a log's readings and how its replay ended.
 #![tactic(auto)]
 
-ghost use Rattle.std.specs.Prelude.{◌≤◌, length};
+ghost use Rattle.std.specs.Prelude.{◌≡◌, ◌≤◌, length};
+ghost use Rattle.refused.specs.Number.{number_of};
 ghost use Rattle.outside.specs.Counts.{IsPrefixLen};
 ghost use Rattle.decimal.specs.Put.{Put};
 ghost use Rattle.replay_print.specs.Said.{said_of};
 
+use refused::Refusal;
 use std::io::Input;
+
+// What refused a record, 0 if nothing did.
+fn number(refused: Option<Refusal>) -> u64
+    ensures { result ≡ number_of refused }
+{
+    match refused {
+        Some(refusal) => u64::from(refusal.number()),
+        None => 0,
+    }
+}
 
 // What a log's replay prints. 16,384 bytes have room for 2,048 readings, one more than a log can have; their lines, of at most 21 bytes, and
 // the last, of at most 58, fit 43,066.
@@ -17,7 +29,7 @@ pub fn replay_log(text: &mut [u8], log: &[u8]) -> usize
     let mut out = [0u8; 16384];
     let stop = replay::replay(log, &mut out);
     let n = 8 * stop.readings;
-    text_readings::replay_text(text, &out[..n], stop.applied as u64, stop.refused as u64)
+    text_readings::replay_text(text, &out[..n], stop.applied as u64, number(stop.refused))
 }
 
 // One byte more than a log may have, so that an over-long one shows.
