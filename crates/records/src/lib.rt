@@ -24,6 +24,17 @@ pub enum Record {
     Ticks(u64),
 }
 
+// The fields of a record as its bytes have them; the bank with the reserved bytes as the upper ones of one number.
+#[derive(Clone, Copy)]
+pub struct Fields {
+    pub kind: u8,
+    pub block: u8,
+    pub channel: u8,
+    pub register: u8,
+    pub bank: u64,
+    pub value: u64,
+}
+
 // ---- the values that a register takes
 
 fn pwm_cnfg(v: u64) -> bool
@@ -84,137 +95,145 @@ fn fitting(fits: bool, r: Record) -> Result<Record, Refusal>
     }
 }
 
-// ---- the kinds
-
-#[tactic(auto, unfolding(crate::specs::Record::write_of))]
-fn select_write(port: bool, channel: u8, register: u8, v: u64) -> Result<Record, Refusal>
-    ensures { result ≡ write_of port 0 channel register v }
-{
-    listed((channel == 0) & (register == 0))?;
-    fitting(select_range(port, v), Record::WriteSelect(v))
-}
-
-#[tactic(auto, unfolding(crate::specs::Record::write_of))]
-fn encoder_write(port: bool, channel: u8, register: u8, v: u64) -> Result<Record, Refusal>
-    ensures { result ≡ write_of port 1 channel register v }
-{
-    listed((channel < 10) & (register == 0))?;
-    fitting(v < 32, Record::WriteEncoder(channel as usize, v))
-}
-
-#[tactic(auto, unfolding(crate::specs::Record::write_of))]
-fn pwm_write(port: bool, channel: u8, register: u8, v: u64) -> Result<Record, Refusal>
-    ensures { result ≡ write_of port 2 channel register v }
-{
-    listed((channel < 20) & (register < 4))?;
-    fitting(
-        pwm_range(register, v),
-        Record::WritePwm(channel as usize, register as u64, v),
-    )
-}
-
-#[tactic(auto, unfolding(crate::specs::Record::write_of))]
-fn i2c_write(port: bool, channel: u8, register: u8, v: u64) -> Result<Record, Refusal>
-    ensures { result ≡ write_of port 3 channel register v }
-{
-    listed((channel == 0) & (register < 3))?;
-    fitting(i2c_range(register, v), Record::WriteI2c(register as u64, v))
-}
-
-#[tactic(auto, unfolding(crate::specs::Record::write_of))]
-fn write(port: bool, block: u8, channel: u8, register: u8, v: u64) -> Result<Record, Refusal>
-    ensures { result ≡ write_of port block channel register v }
-{
-    match block {
-        0 => select_write(port, channel, register, v),
-        1 => encoder_write(port, channel, register, v),
-        2 => pwm_write(port, channel, register, v),
-        3 => i2c_write(port, channel, register, v),
-        _ => Err(Refusal::NoSuchRecord),
-    }
-}
-
 pub fn i2c_registers(answers: bool) -> u8
     ensures { result ≡ cond answers 5 4 }
 {
     if answers { 5 } else { 4 }
 }
 
-#[tactic(auto, unfolding(crate::specs::Record::read_of))]
-fn read(answers: bool, block: u8, channel: u8, register: u8) -> Result<Record, Refusal>
-    ensures { result ≡ read_of answers block channel register }
-{
-    match block {
-        0 => {
-            listed((channel == 0) & (register == 0))?;
-            Ok(Record::ReadSelect)
-        }
-        1 => {
-            listed((channel < 10) & (register < 3))?;
-            Ok(Record::ReadEncoder(channel as usize, register as u64))
-        }
-        2 => {
-            listed((channel < 20) & (register < 6))?;
-            Ok(Record::ReadPwm(channel as usize, register as u64))
-        }
-        3 => {
-            let most = i2c_registers(answers);
-            listed((channel == 0) & ((register != 2) & (register < most)))?;
-            Ok(Record::ReadI2c(register as u64))
-        }
-        _ => Err(Refusal::NoSuchRecord),
+// ---- the kinds
+
+impl Fields {
+    #[tactic(auto, unfolding(crate::specs::Record::write_of))]
+    fn select_write(self, port: bool) -> Result<Record, Refusal>
+        ensures { result ≡ write_of port 0 self.channel self.register self.value }
+    {
+        listed((self.channel == 0) & (self.register == 0))?;
+        fitting(
+            select_range(port, self.value),
+            Record::WriteSelect(self.value),
+        )
     }
-}
 
-#[tactic(auto, unfolding(crate::specs::Record::pins_of))]
-fn pins(block: u8, channel: u8, register: u8, v: u64) -> Result<Record, Refusal>
-    ensures { result ≡ pins_of block channel register v }
-{
-    listed((block == 1) & ((channel < 10) & (register == 0)))?;
-    fitting(v < 4, Record::Pins(channel as usize, v))
-}
+    #[tactic(auto, unfolding(crate::specs::Record::write_of))]
+    fn encoder_write(self, port: bool) -> Result<Record, Refusal>
+        ensures { result ≡ write_of port 1 self.channel self.register self.value }
+    {
+        listed((self.channel < 10) & (self.register == 0))?;
+        fitting(
+            self.value < 32,
+            Record::WriteEncoder(self.channel as usize, self.value),
+        )
+    }
 
-#[tactic(auto, unfolding(crate::specs::Record::ticks_of))]
-fn ticks(block: u8, channel: u8, register: u8, bank: u64, v: u64) -> Result<Record, Refusal>
-    ensures { result ≡ ticks_of block channel register bank v }
-{
-    listed((bank == 0) & ((block == 0) & ((channel == 0) & (register == 0))))?;
-    fitting(v < 4294967296, Record::Ticks(v))
-}
+    #[tactic(auto, unfolding(crate::specs::Record::write_of))]
+    fn pwm_write(self, port: bool) -> Result<Record, Refusal>
+        ensures { result ≡ write_of port 2 self.channel self.register self.value }
+    {
+        listed((self.channel < 20) & (self.register < 4))?;
+        fitting(
+            pwm_range(self.register, self.value),
+            Record::WritePwm(self.channel as usize, self.register as u64, self.value),
+        )
+    }
 
-#[tactic(auto, unfolding(crate::specs::Record::answer_of))]
-fn answer(block: u8, channel: u8, register: u8, v: u64) -> Result<Record, Refusal>
-    ensures { result ≡ answer_of block channel register v }
-{
-    listed((block == 3) & ((channel == 0) & (register == 0)))?;
-    fitting(v < 4, Record::Answer(v))
-}
+    #[tactic(auto, unfolding(crate::specs::Record::write_of))]
+    fn i2c_write(self, port: bool) -> Result<Record, Refusal>
+        ensures { result ≡ write_of port 3 self.channel self.register self.value }
+    {
+        listed((self.channel == 0) & (self.register < 3))?;
+        fitting(
+            i2c_range(self.register, self.value),
+            Record::WriteI2c(self.register as u64, self.value),
+        )
+    }
 
-#[tactic(auto, unfolding(crate::specs::Record::named_of))]
-pub fn named(
-    port: bool,
-    answers: bool,
-    kind: u8,
-    block: u8,
-    channel: u8,
-    register: u8,
-    bank: u64,
-    v: u64,
-) -> Result<Record, Refusal>
-    ensures { result ≡ named_of port answers kind block channel register bank v }
-{
-    match kind {
-        1 => write(port, block, channel, register, v),
-        2 => {
-            listed(v == 0)?;
-            read(answers, block, channel, register)
+    #[tactic(auto, unfolding(crate::specs::Record::write_of))]
+    fn write(self, port: bool) -> Result<Record, Refusal>
+        ensures { result ≡ write_of port self.block self.channel self.register self.value }
+    {
+        match self.block {
+            0 => self.select_write(port),
+            1 => self.encoder_write(port),
+            2 => self.pwm_write(port),
+            3 => self.i2c_write(port),
+            _ => Err(Refusal::NoSuchRecord),
         }
-        3 => pins(block, channel, register, v),
-        4 => ticks(block, channel, register, bank, v),
-        5 => {
-            listed(answers)?;
-            answer(block, channel, register, v)
+    }
+
+    #[tactic(auto, unfolding(crate::specs::Record::read_of))]
+    fn read(self, answers: bool) -> Result<Record, Refusal>
+        ensures { result ≡ read_of answers self.block self.channel self.register }
+    {
+        match self.block {
+            0 => {
+                listed((self.channel == 0) & (self.register == 0))?;
+                Ok(Record::ReadSelect)
+            }
+            1 => {
+                listed((self.channel < 10) & (self.register < 3))?;
+                Ok(Record::ReadEncoder(self.channel as usize, self.register as u64))
+            }
+            2 => {
+                listed((self.channel < 20) & (self.register < 6))?;
+                Ok(Record::ReadPwm(self.channel as usize, self.register as u64))
+            }
+            3 => {
+                let most = i2c_registers(answers);
+                listed((self.channel == 0) & ((self.register != 2) & (self.register < most)))?;
+                Ok(Record::ReadI2c(self.register as u64))
+            }
+            _ => Err(Refusal::NoSuchRecord),
         }
-        _ => Err(Refusal::NoSuchRecord),
+    }
+
+    #[tactic(auto, unfolding(crate::specs::Record::pins_of))]
+    fn pins(self) -> Result<Record, Refusal>
+        ensures { result ≡ pins_of self.block self.channel self.register self.value }
+    {
+        listed((self.block == 1) & ((self.channel < 10) & (self.register == 0)))?;
+        fitting(
+            self.value < 4,
+            Record::Pins(self.channel as usize, self.value),
+        )
+    }
+
+    #[tactic(auto, unfolding(crate::specs::Record::ticks_of))]
+    fn ticks(self) -> Result<Record, Refusal>
+        ensures { result ≡ ticks_of self.block self.channel self.register self.bank self.value }
+    {
+        listed(
+            (self.bank == 0) & ((self.block == 0) & ((self.channel == 0) & (self.register == 0))),
+        )?;
+        fitting(self.value < 4294967296, Record::Ticks(self.value))
+    }
+
+    #[tactic(auto, unfolding(crate::specs::Record::answer_of))]
+    fn answer(self) -> Result<Record, Refusal>
+        ensures { result ≡ answer_of self.block self.channel self.register self.value }
+    {
+        listed((self.block == 3) & ((self.channel == 0) & (self.register == 0)))?;
+        fitting(self.value < 4, Record::Answer(self.value))
+    }
+
+    // What the fields name, in an edition that has a port and answers.
+    #[tactic(auto, unfolding(crate::specs::Record::named_of))]
+    pub fn named(self, port: bool, answers: bool) -> Result<Record, Refusal>
+        ensures { result ≡ named_of port answers self.kind self.block self.channel self.register self.bank self.value }
+    {
+        match self.kind {
+            1 => self.write(port),
+            2 => {
+                listed(self.value == 0)?;
+                self.read(answers)
+            }
+            3 => self.pins(),
+            4 => self.ticks(),
+            5 => {
+                listed(answers)?;
+                self.answer()
+            }
+            _ => Err(Refusal::NoSuchRecord),
+        }
     }
 }
