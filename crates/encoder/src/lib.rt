@@ -135,6 +135,7 @@ impl Encoder {
         }
     }
 
+    // What register 0 to 2 reads: by its number, since a record is an enum of numbers.
     pub fn register(self, register: u64) -> u64
         ensures { result ≡ register_of register self }
     {

@@ -15,7 +15,7 @@ pub struct I2c {
     pub phase: Phase,
     // whether the last received byte was
     pub acknowledged: bool,
-    // how the slave answers the next GO: bit 0 the address, bit 1 the data
+    // how the slave answers the next GO: bit 0 the address, bit 1 the data; a byte, since a record and a stream's state have it so
     pub answer: u8,
     // of the last GO
     pub failure: Option<Failure>,
@@ -94,7 +94,7 @@ impl I2c {
         I2c { answer: v, ..self }
     }
 
-    // A write of ADDR, CNTL or GO, which are 0 to 2, that is not refused.
+    // A write of ADDR, CNTL or GO, which are 0 to 2, that is not refused: by number, since a record is an enum of numbers.
     pub fn write(self, register: u64, v: u8) -> I2c
         ensures { result ≡ on_write register v self }
     {

@@ -143,7 +143,7 @@ impl Pwm {
         self.steps(runs, s as u32, (m - (s << (place as u64))) as u8)
     }
 
-    // A write of CNFG, CS, MAX or CMP, which are 0 to 3.
+    // A write of CNFG, CS, MAX or CMP, which are 0 to 3: by number, since a record is an enum of numbers.
     pub fn write(self, register: u64, v: u16) -> Pwm
         ensures { result ≡ on_write register v self }
     {
