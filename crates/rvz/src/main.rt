@@ -4,8 +4,9 @@
 // What is read and written no contract can say: the functions here promise how many bytes there are, and no more.
 #![tactic(auto)]
 
-ghost use Rattle.std.specs.Prelude.{◌≡◌, false, ◌≤◌, length, IfOk, OnErr};
+ghost use Rattle.std.specs.Prelude.{◌≡◌, ◌≤◌, length, IfOk, OnErr};
 ghost use Rattle.outside.specs.Counts.{IsPrefixLen};
+ghost use Rattle.printed.specs.Printed.{size_of};
 
 use command::Command;
 use printed::Printed;
@@ -21,15 +22,6 @@ fn wanted(rt: &impl Env) -> Command {
     command::asked(&word[..n], words)
 }
 
-fn plain(size: usize) -> Printed
-    ensures { result ≡ record { size = size; refused = false } }
-{
-    Printed {
-        size: size,
-        refused: false,
-    }
-}
-
 // Of a stream the readings are written, and the text is as it was where that fails.
 fn print(
     rt: &(impl Env + Files + Input + Print),
@@ -37,35 +29,28 @@ fn print(
     command: Command,
 ) -> io::Result<Printed>
     requires { 298920 ≤ length text.old }
-    ensures prefix_len { IfOk result (λ r. IsPrefixLen r.size text.new) }
+    ensures prefix_len { IfOk result (λ p. IsPrefixLen (size_of p) text.new) }
     ensures unchanged { OnErr result (text.new ≡ text.old) }
 {
     match command {
-        Command::Replay => Ok(plain(replay_print::replay_input(rt, text))),
+        Command::Replay => Ok(Ok(replay_print::replay_input(rt, text))),
         Command::Dump => Ok(dump_print::dump_input(rt, text)),
         Command::Shrink => Ok(shrink_print::shrink_input(rt, text)),
-        Command::Sign => Ok(plain(sign_print::sign_input(rt, text))),
-        Command::Judge => Ok(plain(judge_print::judge_input(rt, text))),
+        Command::Sign => Ok(Ok(sign_print::sign_input(rt, text))),
+        Command::Judge => Ok(Ok(judge_print::judge_input(rt, text))),
         Command::Write => Ok(write_print::write_input(rt, text)),
         Command::Stream => stream_print::stream_input(rt, text),
-        Command::Rate => Ok(plain(command::rate(rt, text))),
-        Command::Version => Ok(plain(text::put_word(text, 0, b"rvz 1.0.0\n"))),
-        Command::Help => Ok(plain(command::usage(text))),
+        Command::Rate => Ok(Ok(command::rate(rt, text))),
+        Command::Version => Ok(Ok(text::put_word(text, 0, b"rvz 1.0.0\n"))),
+        Command::Help => Ok(Ok(command::usage(text))),
     }
 }
 
-// A refusal goes to standard error: standard output has a whole dump or log, or nothing.
-fn tell(out: &impl Print, errors: &impl Print, text: &[u8], refused: bool) -> io::Result<()> {
-    if refused {
-        return errors.write_all(text);
-    }
-    out.write_all(text)
-}
-
-// The longest text is that of `sign`.
+// The longest text is that of `sign`. A refusal goes to standard error: standard output has a whole dump or log, or nothing.
 fn main(rt: HostRuntime) -> io::Result<()> {
     let mut text = [0u8; 298920];
-    let printed = print(&rt, &mut text, wanted(&rt))?;
-    let n = printed.size;
-    tell(&rt.stdout(), &rt.stderr(), &text[..n], printed.refused)
+    match print(&rt, &mut text, wanted(&rt))? {
+        Ok(n) => rt.stdout().write_all(&text[..n]),
+        Err(n) => rt.stderr().write_all(&text[..n]),
+    }
 }
