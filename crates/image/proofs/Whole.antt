@@ -30,7 +30,6 @@ use Rattle.refused.specs.declared.Refusal.{Refusal}
 use Rattle.image_state.specs.How.{refusal_of, FitsState, head_number, save_pwm, words_of, load_of, is_state, flat_of, Loads, Saves}
 use Rattle.image_state.proofs.Flats.{laid_out, flat_back, state_loaded, lists_fit, FitsLists, Sized}
 use Rattle.image_state.proofs.Pads.{filled, zeros_past}
-use Rattle.image_state.proofs.Lawful.{head_small, head_fits}
 use Rattle.image_state.proofs.Passing.{passed, loads_same}
 use Rattle.image_state.proofs.Laid.{words_laid}
 use Rattle.image_state.proofs.Loaded.{image_long, stands}
@@ -42,9 +41,6 @@ all_room s h = (passed s h).long
 
 pub first_room : (s : List ℕ) → is_state s ≡ true → 0 + 8 ≤ length s
 first_room s h = omega (arith, all_room s h)
-
-pub second_room : (s : List ℕ) → is_state s ≡ true → 8 + 8 ≤ length s
-second_room s h = omega (arith, all_room s h)
 
 whole_of : (s : State) → FitsState s → Whole s
 whole_of s f = record { two = f.0; each = λ k h. let b = f.1 k h in record { ten = b.encoders.0; twenty = b.pwms.0; short = λ i. (b.pwms.1 i).5 } }
@@ -71,12 +67,6 @@ pub load_done : (s : List ℕ) (v : ℕ) (f : Flat) (a : List ℕ) (n : ℕ) (r 
 load_done s v f a n r b h pv pf pa pn pr = rw (pr, pv, pf, pa, pn) (loads_made s b h)
 
 -- ---- saving
-
-pub held_room : (x : Stream) → Saves x → x.held < 16
-held_room x s = s.few
-
-pub edition_room : (x : Stream) → Saves x → x.edition < 5
-edition_room x s = (head_small (number_of x.refused) (length (take x.held x.carried)) x.edition (head_fits (live_of x) s.fits)).edition
 
 abbrev lists_in : Flat → List ℕ
 lists_in f = save_many (le_bytes 8) f.selects ++ (save_many (save_word i2c_number) f.i2cs ++ (save_many (save_word encoder_number) f.encoders ++ save_many save_pwm f.pwms))

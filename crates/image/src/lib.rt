@@ -78,7 +78,9 @@ pub fn load(s: &[u8]) -> Stream
     }
 }
 
-// ---- a stream's image. Each function tells how long its array is, which the proof of `save` would not find again.
+// ---- a stream's image. Each function tells how long its array is, which the proof of `save` would not find again. Each asks for `size` bytes,
+// as `save` does, which takes a slice of any length. The encoders and the PWM channels have a loop each: a function for both would take a
+// closure that writes, and its contract would speak of the borrow that it writes through.
 
 #[tactic(auto, unfolding(image_state::specs::How::head_number))]
 fn head_number(refused: Option<Refusal>, held: usize, edition: u64) -> u64

@@ -12,7 +12,6 @@ ghost use Rattle.live_state.specs.How.{finished, live_of, walked_to, Good};
 
 use banks::Flat;
 use refused::Refusal;
-use std::num::wrapping_add_u64;
 use walk::Walked;
 
 // The edition's number, both banks laid out flat, the bytes of an unfinished record (those past `held` are 0), how many records were applied,
@@ -60,23 +59,17 @@ pub fn behind(carried: [u8; 16], at: usize, bytes: &[u8]) -> [u8; 16]
 }
 
 // A stream after a walk of records behind those that were applied before, and the bytes that are carried on.
-pub fn walked_to(
-    edition: u64,
-    applied: u64,
-    walked: Walked,
-    carried: [u8; 16],
-    held: usize,
-) -> Chunked
-    ensures { result ≡ walked_to edition applied walked carried held }
+pub fn walked_to(s: Stream, walked: Walked, carried: [u8; 16], held: usize) -> Chunked
+    ensures { result ≡ walked_to s.edition s.applied walked carried held }
 {
     let stop = walked.stop;
     let stream = Stream {
-        edition,
         flat: walked.flat,
         carried,
         held,
-        applied: wrapping_add_u64(applied, stop.applied as u64),
+        applied: s.applied.wrapping_add(stop.applied as u64),
         refused: stop.refused,
+        ..s
     };
     Chunked {
         stream,

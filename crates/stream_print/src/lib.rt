@@ -1,4 +1,5 @@
-// What `rvz stream` prints: each reading as soon as its record is there, and how the stream ended.
+// What `rvz stream` prints: each reading as soon as its record is there, and how the stream ended. That a stream is ready stands in the
+// contracts and is no invariant of its type, as in `live`.
 #![tactic(auto)]
 
 ghost use Rattle.std.specs.Prelude.{◌≡◌, ◌≤◌, length, IfOk, OnErr};
