@@ -56,6 +56,7 @@ fn say_pair(text: &mut [u8], clock: Clock, a: Option<u64>, b: Option<u64>) -> us
     }
 }
 
+// Not one function with `say_pair`: the names, the call and the text all differ.
 fn say_rate(text: &mut [u8], clock: Clock, a: Option<u64>, b: Option<u64>) -> usize
     ensures { RateSaid (rule_of clock) a b text.old text.new result }
 {

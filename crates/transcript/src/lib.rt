@@ -51,7 +51,7 @@ pub fn compare(log: &[u8], start: usize, out: &[u8], transcript: &[u8]) -> Verdi
     let mut still = true;
     let mut at = start;
     for j in 0..transcript.len() / 8 {
-        // to the record of this reading
+        // to the record of this reading: by hand, since the next reading goes on where this one stops
         while log[at] != 2 {
             at += 16;
         }
