@@ -31,7 +31,8 @@ fn seen(bytes: &[u8]) -> Step
     }
 }
 
-// The encoders that have a pins record.
+// The encoders that have a pins record. By places, here and below, since `chunks_exact` takes two
+// instructions a record more, and the dump has a bar of speed.
 fn present(records: &[u8]) -> [u8; 20]
     requires { Ready records.now }
     ensures { result ≡ start_of (steps_in records.now) }
