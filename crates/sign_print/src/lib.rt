@@ -32,7 +32,8 @@ fn size(n: u64) -> u64
 
 // ---- a stretch
 
-// The words of a verdict by its number: 0 open, by how many steps it is short of more than 2d; 1 forward, 2 backward, 3 still.
+// The words of a verdict by its number, since an entry's byte holds a number: 0 open, by how many
+// steps it is short of more than 2d; 1 forward, 2 backward, 3 still.
 fn put_verdict(text: &mut [u8], at: usize, verdict: u64, size: u64, doubles: u64) -> usize
     requires { doubles < 4096 }
     ensures { Put text.old at (line (numbered_text verdict size doubles)) text.new result }
