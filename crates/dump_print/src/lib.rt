@@ -22,7 +22,5 @@ pub fn dump_input(rt: &impl Input, text: &mut [u8]) -> Printed
     requires { 25207 ≤ length text.old }
     ensures { IsPrefixLen (size_of result) text.new }
 {
-    let mut log = [0u8; 32769];
-    let n = outside::read_input(rt, &mut log);
-    dump_log(text, &log[..n])
+    printed::of_input(rt, text, dump_log)
 }

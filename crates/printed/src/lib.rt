@@ -2,9 +2,12 @@
 #![tactic(auto)]
 
 ghost use Rattle.decimal.specs.Put.{Put};
-ghost use Rattle.printed.specs.Printed.{Printing, failure_text};
+ghost use Rattle.printed.specs.Printed.{Printing, failure_text, size_of};
+ghost use Rattle.outside.specs.Counts.{IsPrefixLen};
+ghost use Rattle.std.specs.Prelude.{◌≡◌, length};
 
 use made::Failure;
+use std::io::Input;
 
 // How many bytes of a text are for standard output or, as an error, for standard error.
 pub type Printed = Result<usize, usize>;
@@ -28,4 +31,20 @@ pub fn told(text: &mut [u8], made: Result<usize, Failure>) -> Printed
         Ok(size) => Ok(size),
         Err(failure) => Err(put_failure(text, failure)),
     }
+}
+
+// What is said of the log on standard input. One byte more than a log may have is read, so that an over-long one shows. What is read no
+// contract can say.
+pub fn of_input<F: FnOnce(&mut [u8], &[u8]) -> Printed>(
+    rt: &impl Input,
+    text: &mut [u8],
+    say: F,
+) -> Printed
+    requires callable { (t : _) (l : _) → length t.now ≡ length text.old → F.pre say t l }
+    requires says { (t : _) (l : _) (p : _) (t' : _) → F.post say t l p t' → IsPrefixLen (size_of p) t'.now }
+    ensures { IsPrefixLen (size_of result) text.new }
+{
+    let mut log = [0u8; 32769];
+    let n = outside::read_input(rt, &mut log);
+    say(text, &log[..n])
 }

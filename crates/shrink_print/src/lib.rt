@@ -22,7 +22,5 @@ pub fn shrink_input(rt: &impl Input, text: &mut [u8]) -> Printed
     requires { 32768 ≤ length text.old }
     ensures { IsPrefixLen (size_of result) text.new }
 {
-    let mut log = [0u8; 32769];
-    let n = outside::read_input(rt, &mut log);
-    shrink_log(text, &log[..n])
+    printed::of_input(rt, text, shrink_log)
 }
