@@ -1,4 +1,4 @@
-// Words, numbers and lines, put as bytes into a lent slice. Every function answers the place after what it put.
+// Words, numbers and lines, put as bytes into a lent slice.
 #![tactic(auto)]
 
 ghost use Rattle.std.specs.Prelude.{◌≡◌, [], ◌∷◌, ◌++◌, ◌+◌, ◌≤◌, length};
@@ -19,7 +19,8 @@ pub fn copy(out: &mut [u8], at: usize, word: &[u8]) -> usize
     at + word.len()
 }
 
-// As much of a word as has room.
+// As much of a word as has room, and the place after it. Logs and dumps are put by place, and not as a `Text`: with the place in memory each change of
+// a dump takes two instructions more.
 pub fn put_word(out: &mut [u8], at: usize, word: &[u8]) -> usize
     ensures { Put out.old at word.now out.new result }
 {

@@ -1,4 +1,4 @@
-// What a replay prints: each reading on its own line, and how it ended. Every function answers the place after what it put.
+// What a replay prints: each reading on its own line, and how it ended. Where a function answers a number, it is the size of the text.
 #![tactic(auto)]
 
 ghost use Rattle.std.specs.Prelude.{◌+◌, ◌*◌, ◌≤◌, length};
