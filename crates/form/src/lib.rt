@@ -3,37 +3,39 @@
 #![tactic(auto)]
 
 ghost use Rattle.std.specs.Prelude.{◌≡◌, ◌≤◌};
-ghost use Rattle.decimal.specs.Put.{Put};
 ghost use Rattle.form.specs.Form.{sign_of, plural_of, part_of, taken_by, form_text};
+ghost use Rattle.text.specs.Puts.{Puts};
+
+use text::Text;
 
 #[tactic(auto, unfolding(crate::specs::Form::sign_of))]
-fn put_sign(text: &mut [u8], at: usize, n: u64) -> usize
-    ensures { Put text.old at (sign_of n) text.new result }
+fn put_sign(text: &mut Text, n: u64)
+    ensures { Puts text.old text.new (sign_of n) }
 {
     match n {
-        0 => at,
-        1..9_223_372_036_854_775_808 => decimal::put_byte(text, at, b'+'),
-        _ => decimal::put_byte(text, at, b'-'),
+        0 => {}
+        1..9_223_372_036_854_775_808 => text.byte(b'+'),
+        _ => text.byte(b'-'),
     }
 }
 
-fn put_plural(text: &mut [u8], at: usize, n: u64) -> usize
-    ensures { Put text.old at (plural_of n) text.new result }
+fn put_plural(text: &mut Text, n: u64)
+    ensures { Puts text.old text.new (plural_of n) }
 {
     if n == 1 {
-        return at;
+        return;
     }
-    decimal::put_byte(text, at, b's')
+    text.byte(b's');
 }
 
-fn put_part(text: &mut [u8], at: usize, b: u8, n: u64) -> usize
-    ensures { Put text.old at (part_of b n) text.new result }
+fn put_part(text: &mut Text, b: u8, n: u64)
+    ensures { Puts text.old text.new (part_of b n) }
 {
     match b {
-        b'#' => decimal::put(text, at, n),
-        b'^' => put_sign(text, at, n),
-        b'~' => put_plural(text, at, n),
-        _ => decimal::put_byte(text, at, b),
+        b'#' => text.number(n),
+        b'^' => put_sign(text, n),
+        b'~' => put_plural(text, n),
+        _ => text.byte(b),
     }
 }
 
@@ -47,15 +49,13 @@ fn taken(b: u8) -> usize
     }
 }
 
-pub fn put_form(text: &mut [u8], at: usize, form: &[u8], numbers: &[u64]) -> usize
-    ensures { Put text.old at (form_text form.now numbers.now) text.new result }
+pub fn put_form(text: &mut Text, form: &[u8], numbers: &[u64])
+    ensures { Puts text.old text.new (form_text form.now numbers.now) }
 {
-    let mut end = at;
     let mut k = 0;
     for &b in form {
         let n = numbers.get(k).copied().unwrap_or(0);
-        end = put_part(text, end, b, n);
+        put_part(text, b, n);
         k += taken(b);
     }
-    end
 }

@@ -4,7 +4,10 @@ use mathlib.Core.List.{flatten}
 use Rattle.decimal.specs.Ascii.{ascii}
 use Rattle.outside.specs.Counts.{IsPrefixLen}
 use Rattle.decimal.specs.Put.{Put}
-use Rattle.decimal.proofs.Puts.{put_nothing, put_then, put_long}
+use Rattle.decimal.proofs.Puts.{put_long}
+use Rattle.text.specs.declared.Text.{Text}
+use Rattle.text.specs.Puts.{Puts}
+use Rattle.text.proofs.Puts.{puts_nothing, puts_then}
 use Rattle.refused.specs.Number.{number_of}
 use Rattle.fold.specs.Output.{refusal_of, stop_of}
 use Rattle.fold.specs.declared.Stop.{Stop}
@@ -24,10 +27,10 @@ use Rattle.sign_print.proofs.Spelt.{entry_there, one_more}
 use Rattle.sign_print.proofs.Room.{lines_long, stop_long}
 
 -- what stands in the text after the first i entries
-pub record Saying (log entries text₀ : List ℕ) (n : ℕ) (text : List ℕ) (end i : ℕ) : Type 0 where
+pub record Saying (log entries : List ℕ) (first : Text) (n : ℕ) (text : Text) (i : ℕ) : Type 0 where
   pub within : i ≤ n
   pub there : Entries log entries n
-  pub said : Put text₀ 0 (flatten (map stretch_text (take i (stretches_of log)))) text end
+  pub said : Puts first text (flatten (map stretch_text (take i (stretches_of log))))
 
 -- ---- 65,504 bytes have room for every entry
 
@@ -50,36 +53,33 @@ module _ (log out : List ℕ) (room : length out ≡ 65_504) where
 
 -- ---- the entries' lines
 
-pub begins : (log entries text : List ℕ) (n : ℕ) → Entries log entries n → Saying log entries text n text 0 0
+pub begins : (log entries : List ℕ) (text : Text) (n : ℕ) → Entries log entries n → Saying log entries text n text 0
 unfolding flatten
-begins log entries text n x = record { within = omega arith; there = x; said = put_nothing text 0 }
+begins log entries text n x = record { within = omega arith; there = x; said = puts_nothing text }
 
-module _ (log entries text₀ : List ℕ) (n : ℕ) (text : List ℕ) (end i : ℕ) (s : Saying log entries text₀ n text end i) where
-  pub same_long : length text ≡ length text₀
-  same_long = put_long text₀ text _ 0 end s.said
-
+module _ (log entries : List ℕ) (first : Text) (n : ℕ) (text : Text) (i : ℕ) (s : Saying log entries first n text i) where
   module _ (h : i < n) where
     pub here : There entries (32 * i)
     here = entry_there (stretches_of log) (log_fine log) s.there.out entries s.there.listed i (omega (arith, s.there.all))
 
-    pub next : (text' : List ℕ) (end' : ℕ) → Put text end (spelt_at entries (32 * i)) text' end' → Saying log entries text₀ n text' end' (i + 1)
-    next text' end' x = record {
+    pub next : (text' : Text) → Puts text text' (spelt_at entries (32 * i)) → Saying log entries first n text' (i + 1)
+    next text' x = record {
       within = omega arith;
       there = s.there;
-      said = rw (one_more (stretches_of log) (log_fine log) s.there.out entries s.there.listed i (omega (arith, s.there.all))) (put_then text₀ text text' _ _ 0 end end' s.said x);
+      said = rw (one_more (stretches_of log) (log_fine log) s.there.out entries s.there.listed i (omega (arith, s.there.all))) (puts_then first text text' _ _ s.said x);
     }
 
-  pub all_said : n ≤ i → Put text₀ 0 (stretches_text log) text end
+  pub all_said : n ≤ i → Puts first text (stretches_text log)
   unfolding stretches_text
   all_said h = rw (take_all i (stretches_of log) (omega (arith, s.there.all))) at s.said
 
 -- ---- the last line
 
 module _ (log : List ℕ) (stop : Stop) (is : stop ≡ stop_of (replay_of log 16_384)) where
-  pub stop_said : (n : ℕ) → n ≡ number_of stop.refused → (text text' : List ℕ) (at r : ℕ)
-      → Put text at (form_text (ascii "applied " ++ 35 ∷ 32 ∷ ascii "refused " ++ 35 ∷ 10 ∷ []) (stop.applied ∷ n ∷ [])) text' r → Put text at (end_text log) text' r
+  pub stop_said : (n : ℕ) → n ≡ number_of stop.refused → (text text' : Text)
+      → Puts text text' (form_text (ascii "applied " ++ 35 ∷ 32 ∷ ascii "refused " ++ 35 ∷ 10 ∷ []) (stop.applied ∷ n ∷ [])) → Puts text text' (end_text log)
   unfolding end_text stop_of
-  stop_said n e text text' at r x = rw is at (rw e at (rw (stop_line stop.applied n) at x))
+  stop_said n e text text' x = rw is at (rw e at (rw (stop_line stop.applied n) at x))
 
   pub stop_short : stop.applied < 2 ^ 64 → number_of stop.refused < 2 ^ 64 → length (end_text log) ≤ 58
   unfolding end_text stop_of

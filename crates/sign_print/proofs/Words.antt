@@ -2,8 +2,9 @@
 use Rattle.std.proofs.Common.{Bool, true, false, ltb, negsuc, ap, ◌≡◌, ℕ, suc, ◌+◌, ◌-◌, ◌*◌, ◌/◌, ◌%◌, ◌<◌, List, [], ◌∷◌, ◌++◌, nat_abs, refl, append_assoc, arith, ne_eqb}
 use Rattle.decimal.specs.Ascii.{ascii}
 use Rattle.decimal.specs.Digits.{digits_of}
-use Rattle.decimal.specs.Put.{Put}
-use Rattle.decimal.proofs.Puts.{put_then}
+use Rattle.text.specs.declared.Text.{Text}
+use Rattle.text.specs.Puts.{Puts}
+use Rattle.text.proofs.Puts.{puts_then}
 use Rattle.form.specs.Form.{plural_of, form_text}
 use Rattle.text.specs.Text.{line, stop_text}
 use Rattle.numbers.specs.Bytes.{le_of}
@@ -26,22 +27,22 @@ whole_is n h = by (ltb n 9223372036854775808) refl
 grouped : (a b c d e f : List ℕ) → a ++ (b ++ (c ++ (d ++ (e ++ f)))) ≡ a ++ (b ++ (c ++ d)) ++ e ++ f
 grouped a b c d e f = simp append_assoc
 
-module _ (a b : List ℕ) (p q v size d : ℕ) where
-  pub verdict_forward : v ≡ 1 → Put a p (ascii ": forward" ++ 10 ∷ []) b q → Put a p (line (numbered_text v size d)) b q
+module _ (a b : Text) (v size d : ℕ) where
+  pub verdict_forward : v ≡ 1 → Puts a b (ascii ": forward" ++ 10 ∷ []) → Puts a b (line (numbered_text v size d))
   unfolding numbered_text
   verdict_forward e x = rw e x
 
-  pub verdict_backward : v ≡ 2 → Put a p (ascii ": backward" ++ 10 ∷ []) b q → Put a p (line (numbered_text v size d)) b q
+  pub verdict_backward : v ≡ 2 → Puts a b (ascii ": backward" ++ 10 ∷ []) → Puts a b (line (numbered_text v size d))
   unfolding numbered_text
   verdict_backward e x = rw e x
 
-  pub verdict_still : v ≡ 3 → Put a p (ascii ": still" ++ 10 ∷ []) b q → Put a p (line (numbered_text v size d)) b q
+  pub verdict_still : v ≡ 3 → Puts a b (ascii ": still" ++ 10 ∷ []) → Puts a b (line (numbered_text v size d))
   unfolding numbered_text
   verdict_still e x = rw e x
 
   pub verdict_open : (v ≡ 1 → ⊥) → (v ≡ 2 → ⊥) → (v ≡ 3 → ⊥) → (n : ℕ) → n ≡ 2 * d + 1 - size
-      → Put a p (form_text (ascii ": open, " ++ 35 ∷ ascii " step" ++ 126 ∷ ascii " short of a direction" ++ 10 ∷ []) (n ∷ n ∷ [])) b q
-      → Put a p (line (numbered_text v size d)) b q
+      → Puts a b (form_text (ascii ": open, " ++ 35 ∷ ascii " step" ++ 126 ∷ ascii " short of a direction" ++ 10 ∷ []) (n ∷ n ∷ []))
+      → Puts a b (line (numbered_text v size d))
   unfolding form_text numbered_text
   verdict_open f g h n e x =
       rw (ne_eqb v 1 f, ne_eqb v 2 g, ne_eqb v 3 h, ← e) (rw (grouped (ascii ": open, ") (digits_of n) (ascii " step") (plural_of n) (ascii " short of a direction") (10 ∷ [])) at x)
@@ -55,14 +56,14 @@ its_numbers names span steps d least most y z w few fits small el em ey ez ew =
     let l : least ≡ (steps + 18446744073709551616 - 2 * d) % 18446744073709551616 = omega arith in
     rw (ey, ez, ew, ← em, ← l)
 
-pub all_spelt : (a b c : List ℕ) (p q r names span steps doubles z : ℕ) (ns : List ℕ) → ns ≡ numbers_of names span steps doubles → z ≡ nat_abs (whole_of steps)
-    → Put a p (form_text stretch_form ns) b q → Put b q (line (numbered_text (names / 65536 % 4) z doubles)) c r → Put a p (spelt names span steps doubles) c r
+pub all_spelt : (a b c : Text) (names span steps doubles z : ℕ) (ns : List ℕ) → ns ≡ numbers_of names span steps doubles → z ≡ nat_abs (whole_of steps)
+    → Puts a b (form_text stretch_form ns) → Puts b c (line (numbered_text (names / 65536 % 4) z doubles)) → Puts a c (spelt names span steps doubles)
 unfolding spelt
-all_spelt a b c p q r names span steps doubles z ns e f x y = put_then a b c _ _ p q r (rw e at x) (rw f at y)
+all_spelt a b c names span steps doubles z ns e f x y = puts_then a b c _ _ (rw e at x) (rw f at y)
 
-pub entry_spelt : (s a b : List ℕ) (at p q k l m n : ℕ) → k ≡ le_of 8 s at → l ≡ le_of 8 s (at + 8) → m ≡ le_of 8 s (at + 16) → n ≡ le_of 8 s (at + 24)
-    → Put a p (spelt k l m n) b q → Put a p (spelt_at s at) b q
-entry_spelt s a b at p q k l m n ik il im is x = rw (← ik, ← il, ← im, ← is) x
+pub entry_spelt : (s : List ℕ) (a b : Text) (at k l m n : ℕ) → k ≡ le_of 8 s at → l ≡ le_of 8 s (at + 8) → m ≡ le_of 8 s (at + 16) → n ≡ le_of 8 s (at + 24)
+    → Puts a b (spelt k l m n) → Puts a b (spelt_at s at)
+entry_spelt s a b at k l m n ik il im is x = rw (← ik, ← il, ← im, ← is) x
 
 -- ---- the last line
 

@@ -6,12 +6,14 @@ ghost use Rattle.std.specs.Prelude.{◌≡◌, ◌<◌, ◌≤◌, length, unsig
 ghost use Rattle.outside.specs.Counts.{IsPrefixLen};
 ghost use Rattle.decimal.specs.Put.{Put};
 ghost use Rattle.refused.specs.Number.{number_of};
+ghost use Rattle.text.specs.Puts.{Puts};
 ghost use Rattle.text.specs.Text.{line};
 ghost use Rattle.sign_print.specs.Said.{stretches_text, end_text, sign_text};
 ghost use Rattle.sign_print.specs.How.{whole_of, numbered_text, numbers_of, spelt, spelt_at, There, Entries};
 
 use refused::Refusal;
 use std::io::Input;
+use text::Text;
 
 // The four numbers of an entry: bank, encoder, verdict and first record; last record and how many pins; steps; double changes.
 #[derive(Clone, Copy)]
@@ -34,22 +36,21 @@ fn size(n: u64) -> u64
 
 // The words of a verdict by its number, since an entry's byte holds a number: 0 open, by how many
 // steps it is short of more than 2d; 1 forward, 2 backward, 3 still.
-fn put_verdict(text: &mut [u8], at: usize, verdict: u64, size: u64, doubles: u64) -> usize
+fn put_verdict(text: &mut Text, verdict: u64, size: u64, doubles: u64)
     requires { doubles < 4096 }
-    ensures { Put text.old at (line (numbered_text verdict size doubles)) text.new result }
+    ensures { Puts text.old text.new (line (numbered_text verdict size doubles)) }
 {
     match verdict {
-        1 => text::put_word(text, at, b": forward\n"),
-        2 => text::put_word(text, at, b": backward\n"),
-        3 => text::put_word(text, at, b": still\n"),
+        1 => text.word(b": forward\n"),
+        2 => text.word(b": backward\n"),
+        3 => text.word(b": still\n"),
         _ => {
             let short = (2 * doubles + 1).saturating_sub(size);
             form::put_form(
                 text,
-                at,
                 b": open, # step~ short of a direction\n",
                 &[short, short],
-            )
+            );
         }
     }
 }
@@ -82,24 +83,23 @@ fn line_numbers(x: Numbers) -> [u64; 15]
 }
 
 // A stretch's line.
-fn put_stretch(text: &mut [u8], at: usize, x: Numbers) -> usize
+fn put_stretch(text: &mut Text, x: Numbers)
     requires { x.doubles < 4096 }
-    ensures { Put text.old at (spelt x.names x.span x.steps x.doubles) text.new result }
+    ensures { Puts text.old text.new (spelt x.names x.span x.steps x.doubles) }
 {
     let numbers = line_numbers(x);
-    let end = form::put_form(
+    form::put_form(
         text,
-        at,
         b"bank # encoder #: records # to #, # pin~, ^# step~, # double change~, travel ^# to ^#",
         &numbers,
     );
-    put_verdict(text, end, x.names / 65536 % 4, size(x.steps), x.doubles)
+    put_verdict(text, x.names / 65536 % 4, size(x.steps), x.doubles);
 }
 
 // The line of the entry at a place.
-fn put_entry(text: &mut [u8], at: usize, entries: &[u8], from: usize) -> usize
+fn put_entry(text: &mut Text, entries: &[u8], from: usize)
     requires { There entries.now from }
-    ensures { Put text.old at (spelt_at entries.now from) text.new result }
+    ensures { Puts text.old text.new (spelt_at entries.now from) }
 {
     let x = Numbers {
         names: numbers::le64(entries, from),
@@ -107,21 +107,19 @@ fn put_entry(text: &mut [u8], at: usize, entries: &[u8], from: usize) -> usize
         steps: numbers::le64(entries, from + 16),
         doubles: numbers::le64(entries, from + 24),
     };
-    put_stretch(text, at, x)
+    put_stretch(text, x);
 }
 
 // ---- a log
 
 // The lines of a log's first n entries. The log itself is only spoken of.
-fn put_stretches(text: &mut [u8], log: &[u8], entries: &[u8], n: usize) -> usize
+fn put_stretches(text: &mut Text, log: &[u8], entries: &[u8], n: usize)
     requires { Entries log.now entries.now n }
-    ensures { Put text.old 0 (stretches_text log.now) text.new result }
+    ensures { Puts text.old text.new (stretches_text log.now) }
 {
-    let mut end = 0;
     for i in 0..n {
-        end = put_entry(text, end, entries, 32 * i);
+        put_entry(text, entries, 32 * i);
     }
-    end
 }
 
 fn number(refused: Option<Refusal>) -> u64
@@ -133,13 +131,13 @@ fn number(refused: Option<Refusal>) -> u64
     }
 }
 
-fn put_stop(text: &mut [u8], at: usize, log: &[u8]) -> usize
-    ensures put { Put text.old at (end_text log.now) text.new result }
+fn put_stop(text: &mut Text, log: &[u8])
+    ensures put { Puts text.old text.new (end_text log.now) }
     ensures log_len_bound { length (end_text log.now) ≤ 58 }
 {
     let stop = sign::replayed(log);
     let numbers = [stop.applied as u64, number(stop.refused)];
-    form::put_form(text, at, b"applied # refused #\n", &numbers)
+    form::put_form(text, b"applied # refused #\n", &numbers);
 }
 
 // 65,504 bytes have room for an entry of each record that a log can have, so that 6 is not given. Their lines, of at most 146 bytes, and the
@@ -150,8 +148,10 @@ pub fn sign_log(text: &mut [u8], log: &[u8]) -> usize
 {
     let mut entries = [0u8; 65504];
     let signs = sign::sign(log, &mut entries);
-    let end = put_stretches(text, log, &entries, signs.count);
-    put_stop(text, end, log)
+    let mut text = Text::new(text);
+    put_stretches(&mut text, log, &entries, signs.count);
+    put_stop(&mut text, log);
+    text.at
 }
 
 // The log on standard input, one byte more than it may have, so that an over-long one shows. What is read no contract can say.

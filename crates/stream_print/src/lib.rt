@@ -17,6 +17,7 @@ use refused::Refusal;
 use std::io;
 use std::io::{Input, Print};
 use std::rt::Env;
+use text::Text;
 
 // The stream after a chunk, and the size of what is printed of it.
 #[derive(Clone, Copy)]
@@ -50,7 +51,9 @@ pub fn end_text(text: &mut [u8], s: Stream) -> usize
     ensures { Put text.old 0 (last_of (live_of s)) text.new result }
 {
     let number = live_state::end(s).err().map_or(0, Refusal::number);
-    text::put_pair(text, 0, b"applied ", s.applied, b" refused ", number as u64)
+    let mut text = Text::new(text);
+    text.pair(b"applied ", s.applied, b" refused ", number as u64);
+    text.at
 }
 
 // The same where the edition is none: nothing is read.
@@ -58,7 +61,9 @@ pub fn no_edition_text(text: &mut [u8]) -> usize
     ensures { Put text.old 0 no_edition text.new result }
 {
     let number = Refusal::WrongEdition.number();
-    text::put_pair(text, 0, b"applied ", 0, b" refused ", number as u64)
+    let mut text = Text::new(text);
+    text.pair(b"applied ", 0, b" refused ", number as u64);
+    text.at
 }
 
 // A chunk's readings, written at once, or the error of that write.

@@ -1,3 +1,4 @@
 pub mod Lines
 pub mod Room
 pub mod Proved
+pub mod Puts

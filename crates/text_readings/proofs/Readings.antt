@@ -6,10 +6,11 @@ use native.Mathlib.Omega.{arith}
 use lib.ListN.{length, length-append, get_or-append}
 use lib.Seq.{drop_at}
 use Rattle.decimal.specs.Digits.{digits_of}
-use Rattle.decimal.specs.Put.{Put}
-use Rattle.decimal.proofs.Puts.{put_nothing, put_then}
 use Rattle.numbers.specs.Bytes.{le_of}
-use Rattle.text.specs.Text.{line, lines_of, numbers_in, readings_in}
+use Rattle.text.specs.declared.Text.{Text}
+use Rattle.text.specs.Puts.{Puts}
+use Rattle.text.proofs.Puts.{puts_nothing, puts_then}
+use Rattle.text.specs.Text.{line, stop_text, text_of, lines_of, numbers_in, readings_in}
 
 -- bytes that follow change no number
 le_front : (n : ℕ) (s t : List ℕ) (at : ℕ) → at + n ≤ length s → le_of n (s ++ t) at ≡ le_of n s at
@@ -29,12 +30,16 @@ readings_one s t h =
     rw (e, le_front 8 s t 0 (omega arith), drop_at s t 8 h)
 
 -- the readings from some place on, of which it is known that what puts them puts all
-module _ (mid out all rest : List ℕ) (end : ℕ) (x : (o : List ℕ) (e : ℕ) → Put mid end (lines_of (readings_in rest)) o e → Put out 0 (lines_of (readings_in all)) o e) where
-  pub readings_next : (s t mid' : List ℕ) (end' v : ℕ) → rest ≡ s ++ t → length s ≡ 8 → v ≡ le_of 8 s 0 → Put mid end (line (digits_of v)) mid' end'
-      → (o : List ℕ) (e : ℕ) → Put mid' end' (lines_of (readings_in t)) o e → Put out 0 (lines_of (readings_in all)) o e
-  readings_next s t mid' end' v p q r y o e z =
+module _ (out mid : Text) (all rest : List ℕ) (x : (o : Text) → Puts mid o (lines_of (readings_in rest)) → Puts out o (lines_of (readings_in all))) where
+  pub readings_next : (s t : List ℕ) (mid' : Text) (v : ℕ) → rest ≡ s ++ t → length s ≡ 8 → v ≡ le_of 8 s 0 → Puts mid mid' (line (digits_of v))
+      → (o : Text) → Puts mid' o (lines_of (readings_in t)) → Puts out o (lines_of (readings_in all))
+  readings_next s t mid' v p q r y o z =
       let first = rw r at y in
-      x o e (rw (p, readings_one s t q) (put_then mid mid' o (line (digits_of (le_of 8 s 0))) (lines_of (readings_in t)) end end' e first z))
+      x o (rw (p, readings_one s t q) (puts_then mid mid' o (line (digits_of (le_of 8 s 0))) (lines_of (readings_in t)) first z))
 
-  pub readings_end : length rest < 8 → Put out 0 (lines_of (readings_in all)) mid end
-  readings_end h = x mid end (rw (readings_few rest h) (put_nothing mid end))
+  pub readings_end : length rest < 8 → Puts out mid (lines_of (readings_in all))
+  readings_end h = x mid (rw (readings_few rest h) (puts_nothing mid))
+
+-- the readings, and how it ended
+pub told : (a b c : Text) (readings : List ℕ) (k r : ℕ) → Puts a b (lines_of (readings_in readings)) → Puts b c (stop_text k r) → Puts a c (text_of (readings_in readings) k r)
+told a b c readings k r x y = puts_then a b c _ _ x y

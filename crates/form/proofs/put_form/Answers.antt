@@ -1,6 +1,9 @@
 use Rattle.std.proofs.Common.{◌≡◌, ◌∙◌, arith, get_or}
-use Rattle.form.proofs.Forms.{next, all_formed}
+use Rattle.form.proofs.Forms.{begins, next, all_formed}
 use Rattle.form.proofs.put_form.Goals as goal
+
+pub loop-b-init : goal.loop-b-init
+loop-b-init c = begins _ _ _
 
 pub loop-b-preserved : goal.loop-b-preserved
 loop-b-preserved c =

@@ -3,4 +3,4 @@ use Rattle.form.proofs.Forms.{Forming}
 use Rattle.form.proofs.put_form.Given as goal
 
 abbrev pub invariant-loop-b : goal.invariant-loop-b
-invariant-loop-b l = Forming l.fn.text l.at l.form l.numbers l.text l.end l.k l.b-index
+invariant-loop-b l = Forming l.fn.text l.form l.numbers l.text l.k l.b-index

@@ -6,8 +6,8 @@ use Rattle.sign_print.proofs.put_stretches.Goals as goal
 pub loop-i-init : goal.loop-i-init
 loop-i-init c = search (begins, rules)
 
-pub put_entry-end-requires : goal.put_entry-end-requires
-put_entry-end-requires c = search (here, rules)
+pub put_entry-requires : goal.put_entry-requires
+put_entry-requires c = search (here, rules)
 
 pub loop-i-preserved : goal.loop-i-preserved
 loop-i-preserved c = search (next, rules)

@@ -1,6 +1,5 @@
--- `text_answers::pair_text` meets its contract. Assumes nothing.
-use Rattle.decimal.proofs.Puts.{put_then}
+use Rattle.text.proofs.Puts.{puts_then, puts_end}
 use Rattle.text_answers.proofs.pair_text.Goals as goal
 
 pub returns : goal.returns
-returns c = search put_then
+returns c = let h = puts_then _ _ _ _ _ c.count.ensures c.pair.ensures in search puts_end

@@ -1,0 +1,5 @@
+use Rattle.text.proofs.Puts.{puts_then}
+use Rattle.text.proofs.Text.line.Goals as goal
+
+pub returns : goal.returns
+returns c = search puts_then
