@@ -9,6 +9,7 @@ ghost use Rattle.printed.specs.Printed.{MadePrinted, size_of};
 use printed::Printed;
 use std::io::Input;
 
+// Beside `shrink_print::shrink_log` these are two lines, which differ in the call.
 pub fn dump_log(text: &mut [u8], log: &[u8]) -> Printed
     requires { 25207 ≤ length text.old }
     ensures { MadePrinted dump_text log.now text.new result }

@@ -12,6 +12,7 @@ use encoder_stat::{cleared_by, erred, marked};
 #[derive(Clone, Copy)]
 pub struct Encoder {
     pub count: i32,
+    // numbers, as registers are: a field for each bit costs instructions at every record
     pub cnfg: u32,
     pub stat: u32,
     // two fields, since a stream's state has both as bytes, whatever the pins are that are unseen

@@ -17,6 +17,7 @@ pub fn le<const N: usize>(s: &[u8], at: usize) -> u64
     u64::from_le_bytes(bytes)
 }
 
+// `le` by the widths that a log has, here and for `put`: shorter to read at the many calls.
 pub fn le16(s: &[u8], at: usize) -> u64
     requires { at + 2 ≤ length s.now }
     ensures { (result ≡ le_of 2 s.now at) × (result < 65536) }

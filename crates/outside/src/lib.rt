@@ -48,7 +48,7 @@ pub fn read_some<R: Read>(from: &mut R, buf: &mut [u8]) -> usize
     from.read(buf).unwrap_or(0)
 }
 
-// Reads until the buffer is full or a read gives no byte.
+// Reads until the buffer is full or a read gives no byte. No `for`: how far a turn goes is what its read gives.
 pub fn read_full<R: Read>(from: &mut R, buf: &mut [u8]) -> usize
     ensures { IsPrefixLen result buf.new }
 {

@@ -10,7 +10,8 @@ use rate_counts::{Bracket, finest, nearer, undivided};
 use refused::Refusal;
 
 // The clock's rate in hertz, for rates from registers; its rate and the range of wanted rates, all in the unit of these; the factor of a
-// period. PWM and SPI differ in the range and the factor.
+// period. PWM and SPI differ in the range and the factor. No invariant: the definitions speak of rules
+// that are not fair, too.
 #[derive(Clone, Copy)]
 pub struct Rule {
     pub hertz: u64,
@@ -103,7 +104,7 @@ fn find(rule: Rule, f: u64, tol: u64) -> Result<Pair, Refusal>
     answer(rule, f, tol, finest(rule.clock, step))
 }
 
-// The pair for a PWM rate in millihertz, within the tolerance in parts per million.
+// The pair for a PWM rate in millihertz, within the tolerance in parts per million. Here and below one call for each clock, as C has them.
 pub fn find_pwm(f: u64, tol: u64) -> Result<Pair, Refusal>
     ensures { Answer (pwm 1_000) f tol result }
 {

@@ -44,7 +44,7 @@ fn coarser(a: Bracket) -> Bracket
     }
 }
 
-// The bracket of the finest divider whose counts go past the clock's rate.
+// The bracket of the finest divider whose counts go past the clock's rate. No `for`: nothing is counted, the counts are halved until they fit.
 pub fn finest(clock: u64, step: u64) -> Bracket
     requires { Fit clock step }
     ensures { (Brackets clock step result) × (result.low < 65_536) }

@@ -21,6 +21,7 @@ pub enum Question {
     Rate(Clock),
 }
 
+// What `say` takes.
 pub fn asked(word: &[u8]) -> Option<Question>
     ensures { result ≡ question_of word.now }
 {

@@ -32,7 +32,7 @@ pub fn replay_log(text: &mut [u8], log: &[u8]) -> usize
     text_readings::replay_text(text, &out[..n], stop.applied as u64, number(stop.refused))
 }
 
-// One byte more than a log may have, so that an over-long one shows.
+// One byte more than a log may have, so that an over-long one shows. Not by `printed::of_input`, whose text can be a refusal.
 pub fn replay_input(rt: &impl Input, text: &mut [u8]) -> usize
     ensures { IsPrefixLen result text.new }
 {

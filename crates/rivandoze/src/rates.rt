@@ -1,4 +1,4 @@
-// The rate finder. Each answer is one number, whose low byte is the refusal, 0 if none.
+// The rate finder. Each answer is one number, whose low byte is the refusal, 0 if none. C has a name for each call, so that they stay apart.
 ghost use Rattle.std.specs.Prelude.{◌≡◌};
 ghost use Rattle.rate.specs.Rate.{pwm, spi, Outcome, rate_of};
 ghost use Rattle.words.specs.Word.{found_in, rated_in};

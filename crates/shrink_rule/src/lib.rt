@@ -14,6 +14,7 @@ fn forget(last: &mut [Option<u8>; 20], bank: usize)
     requires { length last.old ≡ 20 }
     ensures { last.new ≡ forgotten bank last.old }
 {
+    // by number: an iterator over numbers and pins was tried, and its proof did not close
     for e in 0..20 {
         if e / 10 == bank {
             last[e] = None;

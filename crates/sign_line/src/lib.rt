@@ -47,6 +47,7 @@ pub fn configured(l: Line, cnfg: u64) -> Line
 pub fn reroute(lines: &mut [Line; 20], bank: usize, port: bool, select: u64)
     ensures { lines.new ≡ map_from (rerouted_line port bank select) 0 lines.old }
 {
+    // by number, which the test needs: with an iterator it is no plainer
     for e in 0..20 {
         if e / 10 == bank && !select::encoder_routed(port, select, e % 10) {
             lines[e].stretch = None;
