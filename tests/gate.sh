@@ -11,8 +11,22 @@ plant() {
     rm -rf "$work/repo"
     mkdir -p "$work/repo/crates/say/src" "$work/repo/crates/bits" "$work/repo/tests"
     cp -r "$here/.ci" "$work/repo/.ci"
-    cp -r "$here"/crates/bits/{src,specs} "$work/repo/crates/bits"
+    cp -r "$here"/crates/bits/specs "$work/repo/crates/bits"
     cd "$work/repo" || exit 1
+    mkdir crates/bits/src
+    cat >crates/bits/src/lib.rt <<'RT'
+// A truth value as the bit that a register shows of it.
+#![tactic(auto)]
+
+ghost use Rattle.std.specs.Prelude.{◌≡◌, ◌≤◌};
+ghost use Rattle.bits.specs.Bits.{num};
+
+pub fn number(b: bool) -> u8
+    ensures { (result ≡ num b) × (result ≤ 1) }
+{
+    if b { 1 } else { 0 }
+}
+RT
     printf 'bits:\nsay:\n' >crates.txt
     cat >crates/say/src/main.rt <<'RT'
 // Says one word.

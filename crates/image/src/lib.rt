@@ -40,25 +40,22 @@ fn load_flat(s: &[u8]) -> Flat
     requires { size ≤ length s.now }
     ensures { result ≡ flat_of s.now }
 {
-    let mut selects = [0u64; 2];
-    let mut i2cs = [I2c::fresh(); 2];
-    let mut encoders = [Encoder::fresh(); 20];
-    let mut pwms = [Pwm::fresh(); 40];
-    load_each(&mut selects, 32, 8, |at| le64(s, at));
-    load_each(&mut i2cs, 48, 8, |at| i2c_of(le64(s, at)));
-    load_each(&mut encoders, 64, 8, |at| encoder_of(le64(s, at)));
+    let mut flat = Flat {
+        selects: [0; 2],
+        encoders: [Encoder::fresh(); 20],
+        pwms: [Pwm::fresh(); 40],
+        i2cs: [I2c::fresh(); 2],
+    };
+    load_each(&mut flat.selects, 32, 8, |at| le64(s, at));
+    load_each(&mut flat.i2cs, 48, 8, |at| i2c_of(le64(s, at)));
+    load_each(&mut flat.encoders, 64, 8, |at| encoder_of(le64(s, at)));
     load_each(
-        &mut pwms,
+        &mut flat.pwms,
         224,
         16,
         |at| pwm_of(le64(s, at), le64(s, at + 8)),
     );
-    Flat {
-        selects,
-        encoders,
-        pwms,
-        i2cs,
-    }
+    flat
 }
 
 pub fn load(s: &[u8]) -> Stream
