@@ -3,3 +3,4 @@ pub mod Two
 pub mod Refused
 pub mod Steps
 pub mod Rooms
+pub mod Laid

@@ -7,10 +7,15 @@ ghost use Rattle.refused.specs.Number.{number_of};
 ghost use Rattle.std.proofs.Math.Seq.{paste};
 ghost use Rattle.fold.specs.Device.{records};
 ghost use Rattle.wire.specs.Decode.{reads_in};
+ghost use Rattle.banks.specs.State.{fresh};
+ghost use Rattle.banks.specs.How.{state_of};
 ghost use Rattle.live_state.specs.Live.{fresh_of, taken_of, end_of};
 ghost use Rattle.live_state.specs.How.{finished, live_of, walked_to, Good};
 
 use banks::Flat;
+use encoder::Encoder;
+use i2c::I2c;
+use pwm::Pwm;
 use refused::Refusal;
 use walk::Walked;
 
@@ -34,13 +39,26 @@ pub struct Chunked {
     pub readings: usize,
 }
 
+// Laid out at once: `banks::laid_out` of a fresh state takes a thousand instructions.
+#[tactic(auto, using(crate::proofs::Laid::fresh_laid))]
+fn fresh_flat() -> Flat
+    ensures { state_of result ≡ fresh }
+{
+    Flat {
+        selects: [0; 2],
+        encoders: [Encoder::fresh(); 20],
+        pwms: [Pwm::fresh(); 40],
+        i2cs: [I2c::fresh(); 2],
+    }
+}
+
 pub fn start(edition: u64) -> Stream
     ensures result_value { live_of result ≡ fresh_of edition }
     ensures good { Good result }
 {
     Stream {
         edition,
-        flat: banks::laid_out(banks::fresh()),
+        flat: fresh_flat(),
         carried: [0u8; 16],
         held: 0,
         applied: 0,
