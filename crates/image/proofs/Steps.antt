@@ -2,19 +2,18 @@
 -- Assumes nothing.
 use mathlib.Core.Path.{◌≡◌, refl, sym, ap, ◌∙◌}
 use mathlib.Core.List.{List, [], ◌∷◌, ◌++◌, append-nil, append_assoc}
-use Prim.Native.Nat.{ℕ, ◌+◌, ◌*◌, ◌≤◌, ◌<◌}
+use Prim.Native.Nat.{ℕ, ◌+◌, ◌*◌, ◌<◌}
 use native.Mathlib.Omega.{arith}
 use lib.ListN.{length, get_or}
 use lib.Seq.{sets, length-sets}
 use Rattle.numbers.specs.Bytes.{le_bytes}
 use Rattle.codec.specs.How.{save_word, save_many}
-use Rattle.codec.proofs.Loops.{saved, saved_none, saved_more, saved_all, sets_append}
+use Rattle.codec.proofs.Loops.{saved, saved_more, sets_append}
 use Rattle.encoder.specs.declared.Encoder.{Encoder}
 use Rattle.pwm.specs.declared.Pwm.{Pwm}
 use Rattle.i2c.specs.declared.I2c.{I2c}
 use Rattle.banks.specs.declared.Flat.{Flat}
 use Rattle.image_words.specs.How.{i2c_number, low_number}
-use Rattle.image_pwm.specs.How.{registers_number, wave_number}
 use Rattle.image_state.specs.How.{save_pwm}
 
 -- ---- saving
@@ -22,46 +21,21 @@ use Rattle.image_state.specs.How.{save_pwm}
 pub same_long : (out₀ out xs : List ℕ) (at : ℕ) → out ≡ sets out₀ at xs → length out ≡ length out₀
 same_long out₀ out xs at e = ap length e ∙ length-sets out₀ at xs
 
-module _ (out₀ out xs : List ℕ) (at : ℕ) (e : out ≡ sets out₀ at xs) (room : 864 ≤ length out₀) (i : ℕ) where
-  pub room_encoders : i < 20 → 64 + 8 * i + 8 ≤ length out
-  room_encoders h = omega (arith, same_long out₀ out xs at e)
-
-  pub room_pwms : i < 40 → 224 + 16 * i + 16 ≤ length out
-  room_pwms h = omega (arith, same_long out₀ out xs at e)
-
 module _ (out₀ : List ℕ) (l : List Encoder) where
   abbrev pub encoders_in : ℕ → List ℕ
   encoders_in i = saved 8 (save_word low_number) (λ x. refl) out₀ 64 i l
 
-  pub encoders_out : out₀ ≡ encoders_in 0
-  encoders_out = saved_none 8 (save_word low_number) (λ x. refl) out₀ 64 l
-
-  module _ (encoders-long : length l ≡ 20) where
-    module _ (out : List ℕ) (i : ℕ) (here : out ≡ encoders_in i) where
-      pub encoders_on : (d : Encoder) (v : ℕ) (out' : List ℕ) → i < 20 → v ≡ low_number (get_or l i d) → out' ≡ sets out (64 + 8 * i) (le_bytes 8 v) → out' ≡ encoders_in (i + 1)
-      encoders_on d v out' h p q = q ∙ rw (p, here) (saved_more 8 (save_word low_number) (λ x. refl) out₀ 64 l i d (omega (arith, encoders-long)))
-
-      pub encoders_done : i ≤ 20 → 20 ≤ i → out ≡ sets out₀ 64 (save_many (save_word low_number) l)
-      encoders_done h k = here ∙ saved_all 8 (save_word low_number) (λ x. refl) out₀ 64 l i 20 encoders-long h k
+  -- one encoder more
+  pub encoders_on : (out : List ℕ) (i : ℕ) (d : Encoder) (v : ℕ) (out' : List ℕ) → i < length l → out ≡ encoders_in i → v ≡ low_number (get_or l i d) → out' ≡ sets out (64 + 8 * i) (le_bytes 8 v) → out' ≡ encoders_in (i + 1)
+  encoders_on out i d v out' h here p q = q ∙ rw (p, here) (saved_more 8 (save_word low_number) (λ x. refl) out₀ 64 l i d h)
 
 module _ (out₀ : List ℕ) (l : List Pwm) where
   abbrev pub pwms_in : ℕ → List ℕ
   pwms_in i = saved 16 save_pwm (λ x. refl) out₀ 224 i l
 
-  pub pwms_out : out₀ ≡ pwms_in 0
-  pwms_out = saved_none 16 save_pwm (λ x. refl) out₀ 224 l
-
-  module _ (pwms-long : length l ≡ 40) where
-    module _ (out : List ℕ) (i : ℕ) (here : out ≡ pwms_in i) where
-      pub pwms_on : (d : Pwm) (out' : List ℕ) → i < 40 → out' ≡ sets out (224 + 16 * i) (save_pwm (get_or l i d)) → out' ≡ pwms_in (i + 1)
-      pwms_on d out' h q = q ∙ rw here (saved_more 16 save_pwm (λ x. refl) out₀ 224 l i d (omega (arith, pwms-long)))
-
-      pub pwms_done : i ≤ 40 → 40 ≤ i → out ≡ sets out₀ 224 (save_many save_pwm l)
-      pwms_done h k = here ∙ saved_all 16 save_pwm (λ x. refl) out₀ 224 l i 40 pwms-long h k
-
--- two words in a row
-pub pwm_put : (p : Pwm) (at v w : ℕ) (o₀ o₁ o₂ : List ℕ) → v ≡ registers_number p.registers → w ≡ wave_number p.wave → o₁ ≡ sets o₀ at (le_bytes 8 v) → o₂ ≡ sets o₁ (at + 8) (le_bytes 8 w) → o₂ ≡ sets o₀ at (save_pwm p)
-pwm_put p at v w o₀ o₁ o₂ a b e f = f ∙ rw (e, a, b) (sets_append o₀ (le_bytes 8 (registers_number p.registers)) (le_bytes 8 (wave_number p.wave)) at 8 refl)
+  -- one channel more
+  pub pwms_on : (out : List ℕ) (i : ℕ) (d : Pwm) (out' : List ℕ) → i < length l → out ≡ pwms_in i → out' ≡ sets out (224 + 16 * i) (save_pwm (get_or l i d)) → out' ≡ pwms_in (i + 1)
+  pwms_on out i d out' h here q = q ∙ rw here (saved_more 16 save_pwm (λ x. refl) out₀ 224 l i d h)
 
 -- two elements in a row
 module _ {X : Type 0} (save : X → List ℕ) where

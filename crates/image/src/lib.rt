@@ -89,11 +89,11 @@ fn head_number(refused: Option<Refusal>, held: usize, edition: u64) -> u64
 }
 
 // SELECT and the I2C of each bank.
-fn save_firsts(f: Flat, out: &mut [u8])
+fn save_firsts(f: &Flat, out: &mut [u8])
     requires { size ≤ length out.old }
-    ensures out_after { out.new ≡ sets out.old 32 (save_many (le_bytes 8) f.selects ++ save_many (save_word i2c_number) f.i2cs) }
-    ensures selects_len { length f.selects ≡ 2 }
-    ensures i2cs_len { length f.i2cs ≡ 2 }
+    ensures out_after { out.new ≡ sets out.old 32 (save_many (le_bytes 8) f.now.selects ++ save_many (save_word i2c_number) f.now.i2cs) }
+    ensures selects_len { length f.now.selects ≡ 2 }
+    ensures i2cs_len { length f.now.i2cs ≡ 2 }
 {
     let a = f.i2cs[0];
     let b = f.i2cs[1];
@@ -103,14 +103,13 @@ fn save_firsts(f: Flat, out: &mut [u8])
     put64(out, 56, i2c_number(b));
 }
 
-fn save_encoders(encoders: [Encoder; 20], out: &mut [u8])
+fn save_encoders(encoders: &[Encoder; 20], out: &mut [u8])
     requires { size ≤ length out.old }
-    ensures out_after { out.new ≡ sets out.old 64 (save_many (save_word low_number) encoders) }
-    ensures encoders_len { length encoders ≡ 20 }
+    ensures out_after { out.new ≡ sets out.old 64 (save_many (save_word low_number) encoders.now) }
+    ensures encoders_len { length encoders.now ≡ 20 }
 {
     for i in 0..20 {
-        let e = encoders[i];
-        put64(out, 64 + 8 * i, encoder_number(e));
+        put64(out, 64 + 8 * i, encoder_number(encoders[i]));
     }
 }
 
@@ -124,10 +123,10 @@ fn put_pwm(p: Pwm, at: usize, out: &mut [u8])
     put64(out, at + 8, wave_number(w));
 }
 
-fn save_pwms(pwms: [Pwm; 40], out: &mut [u8])
+fn save_pwms(pwms: &[Pwm; 40], out: &mut [u8])
     requires { size ≤ length out.old }
-    ensures out_after { out.new ≡ sets out.old 224 (save_many save_pwm pwms) }
-    ensures pwms_len { length pwms ≡ 40 }
+    ensures out_after { out.new ≡ sets out.old 224 (save_many save_pwm pwms.now) }
+    ensures pwms_len { length pwms.now ≡ 40 }
 {
     for i in 0..40 {
         put_pwm(pwms[i], 224 + 16 * i, out);
@@ -142,7 +141,7 @@ pub fn save(x: Stream, out: &mut [u8])
     put64(out, 0, head_number(x.refused, x.held, x.edition));
     put64(out, 8, x.applied);
     out[16..32].copy_from_slice(&x.carried);
-    save_firsts(x.flat, out);
-    save_encoders(x.flat.encoders, out);
-    save_pwms(x.flat.pwms, out);
+    save_firsts(&x.flat, out);
+    save_encoders(&x.flat.encoders, out);
+    save_pwms(&x.flat.pwms, out);
 }
