@@ -25,7 +25,8 @@ import sys
 import tempfile
 
 SHAPE = ["no occurrence", "no equation", "has no `Need", "has no field", "is not in scope", "unsolved", "a proof file names what the edit took away", "by a limit of the prover"]
-HEAD = re.compile(r"^\s*(?:pub )?(?:extern \"C\" )?fn (\w+)", re.M)
+# A function begins at its attributes, where rt tells of it.
+HEAD = re.compile(r"^(?:\s*#\[.*\]\n)*\s*(?:pub )?(?:extern \"C\" )?fn (\w+)", re.M)
 LOOP = re.compile(r"^\s*(?:'\w+: )?(?:let .*= )?(?:while|for|loop)\b", re.M)
 TRIED = re.compile(r"^rt: must-fail (\S+)/(\S+)\.edit: (.*)$", re.M)
 # In `rt check`: a function that is refused by itself, and the goal that is open where no file proves it.

@@ -15,7 +15,7 @@ use Rattle.fold.specs.Device.{records}
 use Rattle.encoder.specs.Encoder.{stat_of}
 use Rattle.select.specs.Select.{field_of, some}
 use Rattle.numbers.specs.Bytes.{byte, le_of}
-use Rattle.trailer.specs.Trailer.{trailer_of}
+use Rattle.trailer.specs.Trailer.{records_of, trailer_of}
 use Rattle.wire.specs.Decode.{decode_of}
 use Rattle.records.specs.Record.{named_of, write_of, read_of, pins_of, ticks_of, answer_of}
 use Rattle.bank.specs.Bank as bank
@@ -86,7 +86,7 @@ fixed u f g c x p h = (exact u f (h f 0) refl, exact u g (h g 0) refl)
 pub excluded : Excluded
 unfolding replay_of replay_from trailer_of play_of run_of resumed step tally records turn_of bank.turn_of le_of decode_of named_of write_of read_of pins_of ticks_of answer_of field_of some map_from stat_of bank.fresh bytes_of over output_of
 excluded = record {
-  refuses_all = λ k h. refused_none _ (h whole output _ refl (omega arith)).0;
+  refuses_all = λ k h. refused_none (k (records_of whole)) (h whole output _ refl (omega arith)).0;
   never_moves = λ h. let e : ◌≡◌ {A = ℕ} 0 1 = ap first_byte (h whole output _ refl (omega arith)).2 in omega arith;
   one_reading = λ v h.
       let a : v % 256 ≡ 1 = ap first_byte (h whole output _ refl (omega arith)).2 in
