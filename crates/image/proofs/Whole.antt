@@ -1,11 +1,11 @@
 -- The stream from its parts as the code makes them, and its image from the parts that the code writes.
 -- Assumes nothing.
 use mathlib.Core.Path.{◌≡◌, refl, sym, ap, ◌∙◌, subst}
-use mathlib.Core.Bool.{true}
+use mathlib.Core.Bool.{Bool, true}
 use mathlib.Core.List.{List, [], ◌∷◌, ◌++◌, append_assoc}
 use Prim.Native.Nat.{ℕ, ◌+◌, ◌/◌, ◌%◌, ◌^◌, ◌≤◌, ◌<◌}
 use native.Mathlib.Omega.{arith}
-use lib.ListN.{length, take, drop, length-append, take-append-drop}
+use lib.ListN.{length, take, drop, length-append, length-drop, take-append-drop}
 use lib.Seq.{sets, sets-eq, length-take-le}
 use borrow.Rule.Slice.PartMut.{put_mid}
 use Rattle.std.proofs.Common.{drop-drop}
@@ -20,12 +20,15 @@ use Rattle.banks.specs.How.{state_of}
 use Rattle.banks.proofs.Whole.{Whole}
 use Rattle.live_state.specs.declared.Stream.{Stream}
 use Rattle.live_state.specs.How.{live_of}
+use Rattle.live_state.specs.Live.{end_of}
+use Rattle.live_state.proofs.Refused.{positive}
+use Rattle.std.specs.Prelude.{cond, ◌==◌}
 use Rattle.image_words.specs.Words.{FitsEncoder}
 use Rattle.image_words.specs.How.{i2c_number, encoder_number, low_number}
 use Rattle.image_words.proofs.Numbers.{low_number_lem}
 use Rattle.image_state.specs.Image.{image_of}
-use Rattle.std.proofs.Common.{Option}
-use Rattle.refused.specs.Number.{number_of}
+use Rattle.std.proofs.Common.{Option, None, Some, ne_eqb}
+use Rattle.refused.specs.Number.{number, number_of}
 use Rattle.refused.specs.declared.Refusal.{Refusal}
 use Rattle.image_state.specs.How.{refusal_of, FitsState, head_number, save_pwm, words_of, load_of, is_state, flat_of, Loads, Saves}
 use Rattle.image_state.proofs.Flats.{laid_out, flat_back, state_loaded, lists_fit, FitsLists, Sized}
@@ -65,6 +68,32 @@ loads_made s b h =
 pub load_done : (s : List ℕ) (v : ℕ) (f : Flat) (a : List ℕ) (n : ℕ) (r : Option Refusal) → Bytes s → is_state s ≡ true → v ≡ le_of 8 s 0 → f ≡ flat_of s → a ≡ load_many 1 byte 16 s 16 → n ≡ le_of 8 s 8
     → r ≡ refusal_of (v % 2 ^ 8) → Loads s (made v f a n r)
 load_done s v f a n r b h pv pf pa pn pr = rw (pr, pv, pf, pa, pn) (loads_made s b h)
+
+-- how a stream ends is told by its head, of which v is the number and r the refusal
+module _ (s : List ℕ) (v : ℕ) (r : Option Refusal) (is : is_state s ≡ true) (pv : v ≡ le_of 8 s 0) (pr : r ≡ refusal_of (v % 2 ^ 8)) where
+  ends_by : cond (number_of r == 0) (cond (v / 2 ^ 8 % 2 ^ 8 == 0) 0 5) (number_of r) ≡ end_of (load_of s)
+  unfolding load_of
+  ends_by =
+      let p = passed s is in
+      let held = le_of 8 s 0 / 2 ^ 8 % 2 ^ 8 in
+      let long : length (take held (drop 16 s)) ≡ held = length-take-le held (drop 16 s) (omega (arith, length-drop 16 s, p.long, p.held)) in
+      rw (pr, pv, p.refused, long)
+
+  pub ends_refused : (k : Refusal) → r ≡ Some k → number k ≡ end_of (load_of s)
+  ends_refused k e =
+      let held = cond (v / 2 ^ 8 % 2 ^ 8 == 0) 0 5 in
+      ap (λ (b : Bool). cond b held (number k)) (sym (ne_eqb (number k) 0 (positive k)))
+      ∙ subst (λ (o : Option Refusal). cond (number_of o == 0) held (number_of o) ≡ end_of (load_of s)) e ends_by
+
+  module _ (none : r ≡ None) where
+    ends_held : cond (v / 2 ^ 8 % 2 ^ 8 == 0) 0 5 ≡ end_of (load_of s)
+    ends_held = subst (λ (o : Option Refusal). cond (number_of o == 0) (cond (v / 2 ^ 8 % 2 ^ 8 == 0) 0 5) (number_of o) ≡ end_of (load_of s)) none ends_by
+
+    pub ends_empty : v / 2 ^ 8 % 2 ^ 8 ≡ 0 → 0 ≡ end_of (load_of s)
+    ends_empty e = ap (λ (n : ℕ). cond (n == 0) 0 5) (sym e) ∙ ends_held
+
+    pub ends_over : (v / 2 ^ 8 % 2 ^ 8 ≡ 0 → ⊥) → 5 ≡ end_of (load_of s)
+    ends_over n = ap (λ (b : Bool). cond b 0 5) (sym (ne_eqb (v / 2 ^ 8 % 2 ^ 8) 0 n)) ∙ ends_held
 
 -- ---- saving
 

@@ -3,14 +3,16 @@
 
 ghost use Rattle.std.specs.Prelude.{◌≡◌, ℕ, true, List, ◌++◌, ◌+◌, ◌*◌, ◌^◌, ◌<◌, ◌≤◌, length, drop};
 ghost use Rattle.std.proofs.lemmas.List.Edits.{sets};
+ghost use Rattle.std.specs.Result.{result_err};
 ghost use Rattle.numbers.specs.Bytes.{byte};
 ghost use Rattle.codec.specs.How.{save_word, save_many, load_many};
 ghost use Rattle.refused.specs.Number.{number_of};
+ghost use Rattle.live_state.specs.Live.{end_of};
 ghost use Rattle.live_state.specs.How.{live_of};
 ghost use Rattle.numbers.specs.Bytes.{le_bytes};
 ghost use Rattle.image_words.specs.How.{i2c_number, low_number};
 ghost use Rattle.image_state.specs.Image.{size, image_of};
-ghost use Rattle.image_state.specs.How.{head_number, save_pwm, is_state, flat_of, Gives, Loads, Saves};
+ghost use Rattle.image_state.specs.How.{head_number, save_pwm, is_state, load_of, flat_of, Gives, Loads, Saves};
 
 use banks::Flat;
 use encoder::Encoder;
@@ -72,6 +74,19 @@ pub fn load(s: &[u8]) -> Stream
         held: ((head >> 8) % 256) as usize,
         applied: le64(s, 8),
         refused: refusal_of(head % 256),
+    }
+}
+
+// What the end of the stream in the bytes is answered with, by the head alone: nothing else is loaded.
+pub fn load_end(s: &[u8]) -> Result<(), Refusal>
+    requires { is_state s.now ≡ true }
+    ensures { number_of (result_err result) ≡ end_of (load_of s.now) }
+{
+    let head = le64(s, 0);
+    match refusal_of(head % 256) {
+        Some(refusal) => Err(refusal),
+        None if (head >> 8) % 256 == 0 => Ok(()),
+        None => Err(Refusal::WrongDistance),
     }
 }
 

@@ -82,6 +82,9 @@ module _ (state : List ℕ) (t : Bool) (is : t ≡ is_state state) where
       unfolding load_of
       applied_told n e = inl (load_of state, stands state (bytes_held state held) is_state_lem, e)
 
+      pub ends : (e : Result (Unit {0}) Refusal) → number_of (result_err e) ≡ end_of (load_of state) → On state (λ l. number_of (result_err e) ≡ end_of l) (e ≡ Err NoState)
+      ends e p = inl (load_of state, stands state (bytes_held state held) is_state_lem, p)
+
       module _ (r : Stream) (loads : Loads state r) where
         there : Stands state (live_of r)
         there = subst (Stands state) (sym loads.live) (stands state (bytes_held state held) is_state_lem)
@@ -94,9 +97,6 @@ module _ (state : List ℕ) (t : Bool) (is : t ≡ is_state state) where
           small = there.0.applied;
           zeros = loads.zeros;
         }
-
-        pub ends : (e : Result (Unit {0}) Refusal) → number_of (result_err e) ≡ end_of (live_of r) → On state (λ l. number_of (result_err e) ≡ end_of l) (e ≡ Err NoState)
-        ends e p = inl (live_of r, there, p)
 
         module _ (bytes : List ℕ) (given : Held bytes) (room : ℕ) (c : Chunked) (comes : Comes (chunk_of (live_of r) bytes room) c) where
           fits_on : Fits (live_of c.stream)

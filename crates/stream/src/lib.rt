@@ -58,7 +58,7 @@ pub fn end(state: &[u8]) -> Result<(), Refusal>
     ensures { On state.now (λ l. number_of (result_err result) ≡ end_of l) (result ≡ Err NoState) }
 {
     if image_state::is_state(state) {
-        return live_state::end(image::load(state));
+        return image::load_end(state);
     }
     Err(Refusal::NoState)
 }
