@@ -24,7 +24,7 @@ planted() {
 must 'edits: a function that is refused for another one alone is seen' planted 'climbed is not refused by itself' pwm/cmp_one_late \
     "s,src/lib.rt:[0-9]*:,src/lib.rt:$(awk '/fn fresh/ { print NR; exit }' crates/pwm/src/lib.rt):,"
 must 'edits: one of several changed functions that is proved is seen' planted 'write is not refused by itself' pwm/registers_crossed '/^fn pwm::Pwm::write: /s/no.*/proved/'
-must 'edits: a refusal at a bound is seen' planted 'refused at `cast-v`, not at its promise' edition/any_edition 's/(`returns`)/(`cast-v`)/'
+must 'edits: a refusal at a bound is seen' planted 'refused at `cast-v`, not at its promise' edition/any_edition 's/(`returns[^`]*`)/(`cast-v`)/'
 must 'edits: a refusal at another need than the promise is seen' planted 'climbed is refused at `overflow_add-k`' pwm/cmp_one_late 's/(`returns`)/(`overflow_add-k`)/'
 must 'edits: a refusal at what a call asks is seen' planted 'climbed is refused at `moved-requires`' pwm/cmp_one_late 's/(`returns`)/(`moved-requires`)/'
 must 'edits: a refusal for its shape is seen' planted 'refused for its shape' pwm/cmp_one_late 's/it is not proved that/& `rw`: no occurrence of it;/'

@@ -96,6 +96,7 @@ counts = [
     ("1", "functions that answer a refusal, a kind or none by a number", lines(r"fn (refusal|refused\w*|failed|first_of|of_length|start|end|said|says|verdict|wire_of|unrouted|\w+_refusal|number|divider)\(.*-> (u8|u64|usize)$")),
     ("1", "refusals written as bare numbers", lines(rf"(Refused|Unset|refused_by)\(({NUMBERS})\)|(refused|number): ({NUMBERS}),|(answered\(s, |refused_at\(.*)({NUMBERS})\)|^        (    )*return ({NUMBERS});|^        ?(    )*({NUMBERS})$|\{{ 0 \}} else \{{ ({NUMBERS}) \}}", r"/(trailer|records|wire|tested|refusals|placed|walk|replay|live\w*|stream|made|dump\w*|writer|shrink|sign|judge|transcript|rate)/")),
     ("1", "kinds told apart by numbers", lines(r"\b(kind|block|register|said|phase|failure|first|answer)\b\)? *(==|!=) *\d|log\[[^\]]*\] (==|!=) \d|Fixed\(\d\)|verdict ==|places == \d")),
+    ("1", "arms of a match on a number", lines(r"^\s+\d+( \| \d+|\.\.=\d+)* =>|matches!\(.*\d")),
     ("1", "a yes or no that names one of two things", lines(r"\b(spi|back|declares|receive): bool|Pair\(bool\)|Rate\(bool\)")),
     ("2", "groups of functions that differ in names, types, numbers or texts alone", twins()),
     ("2", "conversions of a byte, a function of a crate each", lines(r"fn (wide|small)\(")),
