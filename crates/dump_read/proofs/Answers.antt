@@ -13,7 +13,12 @@ use Rattle.vcd.specs.Reader.{Reads}
 use Rattle.vcd.specs.How.{Told, entries, refusal, read_of}
 use Rattle.vcd.proofs.Readings.{reads_told, told_reads}
 use Rattle.dump_read.specs.How.{bytes_of}
-use Rattle.dump_read.specs.Reading.{Answer, Settled}
+use Rattle.dump_read.specs.Reading.{Answer, Settled, count_of}
+use Rattle.std.specs.Prelude.{Option, None, Some, Result, Ok, Err}
+use Rattle.std.specs.Result.{result_err}
+use Rattle.refused.specs.declared.Refusal.{Refusal}
+use Rattle.refused.specs.Number.{number_of}
+use Rattle.refused.proofs.Numbers.{positive, one_refusal}
 
 module _ (text out : List ℕ) where
   module _ (e : read_of text ≡ refusal) where
@@ -56,5 +61,35 @@ module _ (text out : List ℕ) where
         by_room true q = let h = leb-true (16 * length xs) (length out) q in agree 0 (length xs) (over (bytes_of xs) out) (a.read xs r h) (b.read xs r h)
         by_room false q = let h = leb-false (16 * length xs) (length out) q in agree 6 0 out (a.cramped xs r h) (b.cramped xs r h)
 
+  few : (o : List ℕ) (j m : ℕ) → Answer text out j m o → j < 21
+  few o j m a = by_told (read_of text) refl
+    where
+      by_told : (t : Told) → read_of text ≡ t → j < 21
+      by_told refusal e = omega (arith, (a.other (none e)).0)
+      by_told (entries xs) e = by_room (leb (16 * length xs) (length out)) refl
+        where
+          by_room : (t : Bool) → leb (16 * length xs) (length out) ≡ t → j < 21
+          by_room true q = omega (arith, (a.read xs (told_reads text xs e) (leb-true (16 * length xs) (length out) q)).0)
+          by_room false q = omega (arith, (a.cramped xs (told_reads text xs e) (leb-false (16 * length xs) (length out) q)).0)
+
 pub settled : Settled
 settled text out o p j k m n a b = by_told text out o p j k m n a b (read_of text) refl
+
+-- ---- and so the Result is the only one, too
+
+refusal_in : Refusal → Option Refusal → Refusal
+refusal_in k None = k
+refusal_in k (Some j) = j
+
+same_result : (r s : Result ℕ Refusal) → number_of (result_err r) ≡ number_of (result_err s) → count_of r ≡ count_of s → number_of (result_err r) < 21 → r ≡ s
+unfolding refusal_in
+same_result (Ok m) (Ok n) e c h = ap Ok c
+same_result (Ok m) (Err k) e c h = absurd (omega (arith, e, positive k))
+same_result (Err k) (Ok n) e c h = absurd (omega (arith, e, positive k))
+same_result (Err k) (Err j) e c h = ap (λ (o : Option Refusal). Err (refusal_in k o)) (one_refusal (Some k) (Some j) e (λ z. omega (arith, h, z)))
+
+pub one_read : (text out o p : List ℕ) (r s : Result ℕ Refusal) → Answer text out (number_of (result_err r)) (count_of r) o
+    → Answer text out (number_of (result_err s)) (count_of s) p → (r ≡ s) × (o ≡ p)
+one_read text out o p r s a b =
+    let t = settled text out o p _ _ _ _ a b in
+    (same_result r s t.0 t.1 (few text out o _ _ a), t.2)

@@ -1,12 +1,13 @@
 -- Entries stored one after the other. Assumes nothing.
 use mathlib.Core.Path.{◌≡◌, refl, sym, ap, ◌∙◌, subst}
-use mathlib.Core.Bool.{true, false, cond}
+use mathlib.Core.Bool.{cond}
 use mathlib.Core.List.{List, [], ◌∷◌, ◌++◌, append_assoc, append-nil, flatten}
 use Prim.Native.Nat.{ℕ, suc, ◌+◌, ◌*◌, ◌≤◌, ◌<◌}
 use native.Mathlib.Omega.{arith}
 use native.Mathlib.Nat.{add-zero, add-suc, suc-add, zero-add}
 use native.Mathlib.Numerals.{add-one}
 use lib.Dec.{eqb}
+use borrow.Author.Tests.{ne_eqb}
 use lib.ListN.{length, take, get_or, set, length-append, length-map}
 use lib.Seq.{sets, length-sets, take-suc, take_all, length-take-le}
 use Rattle.std.proofs.lemmas.List.{get_or-map}
@@ -15,7 +16,7 @@ use Rattle.vcd.specs.declared.Line.{Line}
 use Rattle.vcd.specs.declared.Line.TheVariants.{Fixed, Var, Unknown, Time, Change, Other}
 use Rattle.vcd.specs.declared.Channel.{Channel}
 use Rattle.vcd.specs.Entries.{Entry, entries_at, entry_bytes}
-use Rattle.vcd.specs.How.{Position, flag, pins_of, changed_of, standing, told_before}
+use Rattle.vcd.specs.How.{Position, pins_of, changed_of, standing, told_before}
 use Rattle.dump_read.specs.How.{bytes_of, Stored}
 
 sets_append : (s t out : List ℕ) (at : ℕ) → sets (sets out at s) (at + length s) t ≡ sets out at (s ++ t)
@@ -53,14 +54,14 @@ stored_long a b xs m n x = ap length x.bytes ∙ length-sets a (16 * m) (bytes_o
 -- ---- one encoder's entry
 
 module _ (time e : ℕ) (x : Channel) (out : List ℕ) (n : ℕ) where
-  pub entry_none : x.changed ≡ false → Stored out n (entries_at time e (x.pins ∷ []) (flag x.changed ∷ [])) out n
+  pub entry_none : x.changed ≡ 0 → Stored out n (entries_at time e (x.pins ∷ []) (x.changed ∷ [])) out n
   unfolding entries_at
   entry_none q = rw q (stored_none out n)
 
-  pub entry_some : (out' y : List ℕ) (k : ℕ) → x.changed ≡ true → y ≡ entry_bytes (record { time = time; encoder = e; pins = x.pins }) → Put out (16 * n) y out' k
-      → Stored out n (entries_at time e (x.pins ∷ []) (flag x.changed ∷ [])) out' (n + 1)
+  pub entry_some : (out' y : List ℕ) (k : ℕ) → (x.changed ≡ 0 → ⊥) → y ≡ entry_bytes (record { time = time; encoder = e; pins = x.pins }) → Put out (16 * n) y out' k
+      → Stored out n (entries_at time e (x.pins ∷ []) (x.changed ∷ [])) out' (n + 1)
   unfolding entries_at flatten
-  entry_some out' y k q is z = rw q (record { bytes = z.bytes ∙ ap (sets out (16 * n)) (is ∙ sym (append-nil _)); number = refl })
+  entry_some out' y k q is z = rw (ne_eqb x.changed 0 q) (record { bytes = z.bytes ∙ ap (sets out (16 * n)) (is ∙ sym (append-nil _)); number = refl })
 
 -- ---- the encoders in turn
 
@@ -85,21 +86,21 @@ module _ (time count : ℕ) (out mid : List ℕ) (xs : List Channel) (n e : ℕ)
   long_pins = length-map xs (λ (y : Channel). y.pins) ∙ l
 
   long_changed : length (changed_of xs) ≡ 20
-  long_changed = length-map xs (λ (y : Channel). flag y.changed) ∙ l
+  long_changed = length-map xs (λ (y : Channel). y.changed) ∙ l
 
   pub standing_next : (out' : List ℕ) (k : ℕ) (d : Channel) → e < 20
-      → Stored mid n (entries_at time e ((get_or xs e d).pins ∷ []) (flag (get_or xs e d).changed ∷ [])) out' k
+      → Stored mid n (entries_at time e ((get_or xs e d).pins ∷ []) ((get_or xs e d).changed ∷ [])) out' k
       → Stored out count (entries_at time 0 (take (e + 1) (pins_of xs)) (take (e + 1) (changed_of xs))) out' k
   standing_next out' k d h y =
       let p = get_or-map (λ (z : Channel). z.pins) xs e d 0 (omega arith) in
-      let q = get_or-map (λ (z : Channel). flag z.changed) xs e d 0 (omega arith) in
+      let q = get_or-map (λ (z : Channel). z.changed) xs e d 0 (omega arith) in
       let a = length-take-le e (pins_of xs) (omega (arith, long_pins)) in
       let b = length-take-le e (changed_of xs) (omega (arith, long_changed)) in
-      let s = entries_snoc (take e (pins_of xs)) (take e (changed_of xs)) time 0 (get_or xs e d).pins (flag (get_or xs e d).changed) (a ∙ sym b) in
+      let s = entries_snoc (take e (pins_of xs)) (take e (changed_of xs)) time 0 (get_or xs e d).pins ((get_or xs e d).changed) (a ∙ sym b) in
       let z : 0 + length (take e (pins_of xs)) ≡ e = zero-add (length (take e (pins_of xs))) ∙ a in
       rw (add-one e, take-suc (pins_of xs) e 0 (omega (arith, long_pins)), take-suc (changed_of xs) e 0 (omega (arith, long_changed)), p, q, s, z)
       (stored_then out mid out' (entries_at time 0 (take e (pins_of xs)) (take e (changed_of xs)))
-      (entries_at time e ((get_or xs e d).pins ∷ []) (flag (get_or xs e d).changed ∷ [])) count n k x y)
+      (entries_at time e ((get_or xs e d).pins ∷ []) ((get_or xs e d).changed ∷ [])) count n k x y)
 
   pub standing_done : 20 ≤ e → Stored out count (entries_at time 0 (pins_of xs) (changed_of xs)) mid n
   standing_done h =

@@ -3,15 +3,10 @@ use Rattle.std.specs.Prelude.{◌≡◌, ℕ, ◌*◌, ◌≤◌, ◌<◌, lengt
 use mathlib.Core.List.{List, map, flatten}
 use Rattle.fold.specs.Output.{over}
 use Rattle.refused.specs.declared.Refusal.{Refusal}
-use Rattle.refused.specs.Number.{number}
 use Rattle.vcd.specs.Entries.{Entry, entry_bytes}
 use Rattle.vcd.specs.Reader.{Reads}
 
--- the refusal's number, 0 for none; how many entries
-abbrev pub refused_of : Result ℕ Refusal → ℕ
-refused_of (Ok n) = 0
-refused_of (Err r) = number r
-
+-- how many entries
 abbrev pub count_of : Result ℕ Refusal → ℕ
 count_of (Ok n) = n
 count_of (Err r) = 0

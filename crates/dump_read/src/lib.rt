@@ -4,9 +4,11 @@
 
 ghost use Rattle.std.specs.Prelude.{◌≡◌, ◌+◌, ◌<◌, ◌≤◌, length};
 ghost use mathlib.Core.List.{[], ◌∷◌, foldl};
+ghost use Rattle.std.specs.Result.{result_err};
+ghost use Rattle.refused.specs.Number.{number_of};
 ghost use Rattle.vcd.specs.Entries.{entries_at, entry_bytes};
-ghost use Rattle.vcd.specs.How.{flag, position_of, line_of, lines_of, turn_of, opening, standing, told_before, told_from};
-ghost use Rattle.dump_read.specs.Reading.{Answer, refused_of, count_of};
+ghost use Rattle.vcd.specs.How.{position_of, line_of, lines_of, turn_of, opening, standing, told_before, told_from};
+ghost use Rattle.dump_read.specs.Reading.{Answer, count_of};
 ghost use Rattle.dump_read.specs.How.{Stored};
 
 use refused::Refusal;
@@ -36,10 +38,10 @@ fn entry(time: u64, e: usize, p: u8) -> [u8; 16]
 // The entry of encoder e, if it has changed.
 fn put_entry(time: u64, e: usize, channel: Channel, out: &mut [u8], count: usize) -> usize
     requires { (e < 20) × (count < 4294967296) }
-    ensures stored { Stored out.old count (entries_at time e (channel.pins ∷ []) (flag channel.changed ∷ [])) out.new result }
+    ensures stored { Stored out.old count (entries_at time e (channel.pins ∷ []) (channel.changed ∷ [])) out.new result }
     ensures upper_bound { result ≤ count + 1 }
 {
-    if channel.changed {
+    if channel.changed != 0 {
         let x = entry(time, e, channel.pins);
         let _place = text::put_word(out, 16 * count, &x);
         count + 1
@@ -113,7 +115,7 @@ fn read_text(text: &[u8], out: &mut [u8]) -> Scan
 
 // The first pass over the text stores nothing, so that a refusal writes nothing.
 pub fn dump_read(text: &[u8], out: &mut [u8]) -> Result<usize, Refusal>
-    ensures answer { Answer text.now out.old (refused_of result) (count_of result) out.new }
+    ensures answer { Answer text.now out.old (number_of (result_err result)) (count_of result) out.new }
     ensures count_bound { count_of result ≤ 504160 }
 {
     if text.len() > vcd::DUMP_BYTES {

@@ -7,7 +7,7 @@ use native.Mathlib.Omega.{arith}
 use lib.ListN.{length, replicate}
 use Rattle.laws.specs.Each.{map_from}
 use Rattle.refused.specs.declared.Refusal.{Refusal}
-use Rattle.refused.specs.declared.Refusal.TheVariants.{LogTooLong, LogTooShort, WrongMark, WrongEdition, WrongDistance, OutputTooShort, NoSuchRecord, ValueOutOfRange, NotRouted, WrongSelect, WrongControl, RateOutOfRange, ToleranceTooLarge, NoPair, NoSuchPair, StopAfterAck, WrongTranscript, StepAndDirection, NoState, NoDump}
+use Rattle.refused.proofs.Numbers.{positive}
 use Rattle.refused.specs.Number.{number, number_of}
 use Rattle.fold.specs.Run.{Run, step, resumed, run_of, tally}
 use Rattle.fold.specs.Output.{refusal_of, bytes_of, over, output_of}
@@ -41,26 +41,7 @@ abbrev first_byte : List ℕ → ℕ
 first_byte out = byte out 0
 
 refused_none : (k : Refusal) → number k ≡ 0 → ⊥
-refused_none LogTooLong e = omega arith
-refused_none LogTooShort e = omega arith
-refused_none WrongMark e = omega arith
-refused_none WrongEdition e = omega arith
-refused_none WrongDistance e = omega arith
-refused_none OutputTooShort e = omega arith
-refused_none NoSuchRecord e = omega arith
-refused_none ValueOutOfRange e = omega arith
-refused_none NotRouted e = omega arith
-refused_none WrongSelect e = omega arith
-refused_none WrongControl e = omega arith
-refused_none RateOutOfRange e = omega arith
-refused_none ToleranceTooLarge e = omega arith
-refused_none NoPair e = omega arith
-refused_none NoSuchPair e = omega arith
-refused_none StopAfterAck e = omega arith
-refused_none WrongTranscript e = omega arith
-refused_none StepAndDirection e = omega arith
-refused_none NoState e = omega arith
-refused_none NoDump e = omega arith
+refused_none k e = omega (arith, positive k)
 
 applied_five : (k : ℕ) → suc k + 1 + 1 + 1 + 1 + 1 ≡ 5 → ⊥
 applied_five k e = omega arith

@@ -33,7 +33,7 @@ unmoved = both_banks (λ b. record { select = b.select; encoders = map uncounted
 -- by paper 01's whole log, and a log that reads SELECT where it is 0; by paper 01's requests PWM 1,000 and 40 Hz, SPI 4,000,000
 -- and 40 Hz with tolerance 0
 pub record Excluded : Type 0 where
-  -- "a replay that refuses all", each by any refusal
+  -- "a replay that refuses all", each by any refusal, and so by any number but 0
   pub refuses_all : (k : List (List ℕ) → Refusal) → Meets (λ e rs. halted fresh 0 [] (k rs)) → ⊥
   -- "one that never moves a count", or "always prints one reading", any v
   pub never_moves : Meets (λ e rs. run_of (λ s r. lift unmoved (turn_of e s r)) fresh rs) → ⊥

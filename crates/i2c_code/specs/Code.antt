@@ -3,7 +3,7 @@
 use Rattle.std.specs.Prelude.{ℕ, Bool, not, cond, ◌&&◌, ◌||◌, ltb, eqb, Option, None, Some}
 use Rattle.bits.specs.Bits.{bit}
 use Rattle.i2c_code.specs.declared.Failure.{Failure}
-use Rattle.i2c_code.specs.declared.Failure.TheVariants.{Address, Data}
+use Rattle.i2c_code.specs.declared.Failure.TheVariants.{Address, Data, Other}
 use Rattle.i2c_code.specs.declared.Phase.{Phase}
 use Rattle.i2c_code.specs.declared.Phase.TheVariants.{Idle, TxIdle, RxIdle}
 use Rattle.i2c_code.specs.declared.Code.{Code}
@@ -37,14 +37,14 @@ forbidden p acknowledged k = acknowledged && (eqb (state_of p) 2 && stop_alone k
 -- the failure: "value bit 0 address acknowledged, bit 1 data acknowledged"; "The address bit matters only with START, the data bit only when
 -- sending, and if both fail it is an address failure"
 abbrev pub failed : ℕ → Code → Option Failure
-failed answer k =
-    cond (k.start && not (bit 0 answer)) (Some Address) (cond (k.byte && (not k.receive && not (bit 1 answer))) (Some Data) None)
+failed answer k = cond (k.start && not (bit 0 answer)) (Some Address) (cond (k.byte && (not k.receive && not (bit 1 answer))) (Some Data) None)
 
 -- the number that is read of a failure: "0 none, 1 address, 2 data"
 abbrev pub failure_number : Option Failure → ℕ
 failure_number None = 0
 failure_number (Some Address) = 1
 failure_number (Some Data) = 2
+failure_number (Some (Other n)) = cond (ltb n 3) 3 n
 
 -- the state after a byte, by its direction: "TX idle for R/S 0, RX idle for 1"
 abbrev pub idle_in : Bool → Phase

@@ -11,11 +11,12 @@ pub enum Phase {
     RxIdle = 2,
 }
 
-// What the slave did not acknowledge of a GO.
+// What the slave did not acknowledge of a GO. Whoever calls may give any byte: those above these numbers, which no GO leaves, are one case.
 #[derive(Clone, Copy, PartialEq, Eq)]
 pub enum Failure {
-    Address = 1,
-    Data = 2,
+    Address,
+    Data,
+    Other(u8),
 }
 
 #[derive(Clone, Copy)]
@@ -94,7 +95,9 @@ pub fn number(failure: Option<Failure>) -> u8
 {
     match failure {
         None => 0,
-        Some(f) => f as u8,
+        Some(Failure::Address) => 1,
+        Some(Failure::Data) => 2,
+        Some(Failure::Other(n)) => n.max(3),
     }
 }
 

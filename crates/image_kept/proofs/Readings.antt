@@ -35,7 +35,7 @@ use Rattle.banks.specs.declared.State.{State}
 use Rattle.banks.specs.State.{bank_at, with_bank}
 use Rattle.walk.specs.Turn.{turn_of}
 use Rattle.walk.proofs.Replaying.{by_turn}
-use Rattle.image_words.proofs.Numbers.{state_small, failure_small}
+use Rattle.image_words.proofs.Numbers.{state_small}
 use Rattle.image_words.specs.Words.{FitsI2c, FitsEncoder}
 use Rattle.image_pwm.specs.Words.{FitsPwm}
 use Rattle.image_pwm.proofs.Numbers.{cnfg_small}
@@ -72,7 +72,7 @@ i2c_small register c f = by (eqb register 0) (eqb register 1) (eqb register 3)
     by true b d = omega (arith, f.0)
     by false true d = omega (arith, f.1)
     by false false true = omega (arith, state_small c.phase)
-    by false false false = omega (arith, failure_small c.failure)
+    by false false false = omega (arith, f.3)
 
 -- ---- one record: each number of a list is below 2^64
 

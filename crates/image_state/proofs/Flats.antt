@@ -124,7 +124,7 @@ pub sized : (f : Flat) → FitsLists f → Sized f
 sized f z = record { selects = z.selects.0; encoders = z.encoders.0; pwms = z.pwms.0; i2cs = z.i2cs.0 }
 
 fresh_i2c : FitsI2c no_i2c
-fresh_i2c = (omega arith, omega arith, omega arith)
+fresh_i2c = (omega arith, omega arith, omega arith, omega arith)
 
 part_long : {A : Type 0} (n k : ℕ) (l : List A) → k < 2 → length l ≡ n + n → length (part n k l) ≡ n
 part_long n zero l h e = let z : n * 0 ≡ 0 = omega arith in rw z (length-take-le n l (omega arith))

@@ -68,7 +68,7 @@ pwm_lawful =
 
 -- ---- the stream's own numbers: the refusal, how many bytes are carried, the edition
 
-refusal_small : (n : ℕ) → is_refusal n ≡ true → n < 19
+pub refusal_small : (n : ℕ) → is_refusal n ≡ true → n < 19
 refusal_small n h = by (ltb n 19) refl
   where
     by : (b : Bool) → ltb n 19 ≡ b → n < 19

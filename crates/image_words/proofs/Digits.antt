@@ -1,13 +1,13 @@
 -- Each block's number gives it back, and each number that passes is a block's.
 -- Assumes nothing.
 use mathlib.Core.Path.{◌≡◌, refl, sym, ap, ◌∙◌}
-use mathlib.Core.Bool.{Bool, true, false, ◌&&◌}
+use mathlib.Core.Bool.{Bool, true, false, cond, ◌&&◌}
 use Prim.Native.Nat.{ℕ, zero, suc, ◌+◌, ◌*◌, ◌/◌, ◌%◌, ◌^◌, ◌<◌}
 use native.Mathlib.Omega.{arith}
 use native.Mathlib.Nat.{mod-lt, mod-eq_of_lt, add-mul-mod_self_left, div-add-mod', mul-le-mul_left}
 use lib.Dec.{T, eqb, ltb, ltb→lt}
 use lib.IntN.{pos}
-use borrow.Author.Tests.{lt-ltb, ltb-true}
+use borrow.Author.Tests.{lt-ltb, ltb-true, ltb-false}
 use Rattle.laws.proofs.Truth.{both_true}
 use Rattle.bits.specs.Bits.{num}
 use Rattle.codec.specs.How.{Number}
@@ -18,12 +18,12 @@ use Rattle.i2c_code.specs.declared.Phase.{Phase}
 use Rattle.i2c_code.specs.declared.Phase.TheVariants.{Idle, TxIdle, RxIdle}
 use Rattle.std.proofs.Common.{Option, None, Some}
 use Rattle.i2c_code.specs.declared.Failure.{Failure}
-use Rattle.i2c_code.specs.declared.Failure.TheVariants.{Address, Data}
+use Rattle.i2c_code.specs.declared.Failure.TheVariants.{Address, Data, Other}
 use Rattle.i2c.specs.declared.I2c.{I2c}
 use Rattle.i2c.specs.I2c.{state_of, failure_number}
 use Rattle.image_words.specs.Words.{FitsI2c, FitsEncoder}
 use Rattle.image_words.specs.How.{is_select, phase_of, failure_of, i2c_number, i2c_of, is_i2c, encoder_number, encoder_of, is_encoder}
-use Rattle.image_words.proofs.Numbers.{state_small, failure_small}
+use Rattle.image_words.proofs.Numbers.{state_small}
 
 -- ---- a bit
 
@@ -159,10 +159,15 @@ state_image (suc zero) h = refl
 state_image (suc (suc zero)) h = refl
 state_image (suc (suc (suc v))) h = absurd (omega arith)
 
-failure_back : (f : Option Failure) → failure_of (failure_number f) ≡ f
-failure_back None = refl
-failure_back (Some Address) = refl
-failure_back (Some Data) = refl
+other_large : (n : ℕ) (b : Bool) → ltb n 3 ≡ b → cond b 3 n < 3 → ⊥
+other_large n true e h = omega (arith, h)
+other_large n false e h = omega (arith, h, ltb-false n 3 e)
+
+failure_back : (f : Option Failure) → failure_number f < 3 → failure_of (failure_number f) ≡ f
+failure_back None h = refl
+failure_back (Some Address) h = refl
+failure_back (Some Data) h = refl
+failure_back (Some (Other n)) h = absurd (other_large n (ltb n 3) refl h)
 
 failure_image : (v : ℕ) → v < 3 → failure_number (failure_of v) ≡ v
 failure_image zero h = refl
@@ -208,7 +213,9 @@ module _ (v : ℕ) (h : is_i2c v ≡ true) where
 
   i2c_fits : FitsI2c (i2c_of v)
   unfolding i2c_of
-  i2c_fits = (omega arith, i2c_first.0, i2c_passed.1.1.0)
+  i2c_fits =
+      let last : v / 2 ^ 40 % 2 ^ 8 ≡ v / 2 ^ 40 = omega (arith, i2c_passed.1.1.1) in
+      (omega arith, i2c_first.0, i2c_passed.1.1.0, rw (last, failure_image (v / 2 ^ 40) i2c_passed.1.1.1) i2c_passed.1.1.1)
 
 i2c_image : (v : ℕ) → v / 2 ^ 16 % 2 ^ 8 < 3 → v / 2 ^ 24 % 2 ^ 8 < 2 → v / 2 ^ 40 < 3 → i2c_number (i2c_of v) ≡ v
 unfolding i2c_number i2c_of
@@ -224,9 +231,9 @@ module _ (c : I2c) (f : FitsI2c c) where
 
   i2c_last : failure_of (number / 2 ^ 40 % 2 ^ 8) ≡ c.failure
   i2c_last =
-      let g : number / 2 ^ 40 ≡ failure_number c.failure = i2c_g c.addr c.cntl (state_of c.phase) (num c.acknowledged) c.answer (failure_number c.failure) number refl f.0 f.1 (state_small c.phase) (one c.acknowledged) f.2 (failure_small c.failure) in
-      let e : number / 2 ^ 40 % 2 ^ 8 ≡ failure_number c.failure = omega (arith, g, failure_small c.failure) in
-      rw e (failure_back c.failure)
+      let g : number / 2 ^ 40 ≡ failure_number c.failure = i2c_g c.addr c.cntl (state_of c.phase) (num c.acknowledged) c.answer (failure_number c.failure) number refl f.0 f.1 (state_small c.phase) (one c.acknowledged) f.2 f.3 in
+      let e : number / 2 ^ 40 % 2 ^ 8 ≡ failure_number c.failure = omega (arith, g, f.3) in
+      rw e (failure_back c.failure f.3)
 
   i2c_back : i2c_of (i2c_number c) ≡ c
   unfolding i2c_number i2c_of
@@ -234,20 +241,20 @@ module _ (c : I2c) (f : FitsI2c c) where
       let s = state_small c.phase in
       let o = one c.acknowledged in
       λ i. record {
-        addr = i2c_a c.addr c.cntl (state_of c.phase) (num c.acknowledged) c.answer (failure_number c.failure) number refl f.0 f.1 s o f.2 (failure_small c.failure) i;
-        cntl = i2c_b c.addr c.cntl (state_of c.phase) (num c.acknowledged) c.answer (failure_number c.failure) number refl f.0 f.1 s o f.2 (failure_small c.failure) i;
-        phase = (ap phase_of (i2c_c c.addr c.cntl (state_of c.phase) (num c.acknowledged) c.answer (failure_number c.failure) number refl f.0 f.1 s o f.2 (failure_small c.failure)) ∙ phase_back c.phase) i;
-        acknowledged = is_one c.acknowledged (number / 2 ^ 24 % 2) (i2c_bit c.addr c.cntl (state_of c.phase) (num c.acknowledged) c.answer (failure_number c.failure) number refl f.0 f.1 s o f.2 (failure_small c.failure)) i;
-        answer = i2c_f c.addr c.cntl (state_of c.phase) (num c.acknowledged) c.answer (failure_number c.failure) number refl f.0 f.1 s o f.2 (failure_small c.failure) i;
+        addr = i2c_a c.addr c.cntl (state_of c.phase) (num c.acknowledged) c.answer (failure_number c.failure) number refl f.0 f.1 s o f.2 f.3 i;
+        cntl = i2c_b c.addr c.cntl (state_of c.phase) (num c.acknowledged) c.answer (failure_number c.failure) number refl f.0 f.1 s o f.2 f.3 i;
+        phase = (ap phase_of (i2c_c c.addr c.cntl (state_of c.phase) (num c.acknowledged) c.answer (failure_number c.failure) number refl f.0 f.1 s o f.2 f.3) ∙ phase_back c.phase) i;
+        acknowledged = is_one c.acknowledged (number / 2 ^ 24 % 2) (i2c_bit c.addr c.cntl (state_of c.phase) (num c.acknowledged) c.answer (failure_number c.failure) number refl f.0 f.1 s o f.2 f.3) i;
+        answer = i2c_f c.addr c.cntl (state_of c.phase) (num c.acknowledged) c.answer (failure_number c.failure) number refl f.0 f.1 s o f.2 f.3 i;
         failure = i2c_last i;
       }
 
 pub i2c_number_lem : Number is_i2c i2c_number i2c_of FitsI2c
 unfolding i2c_number
 i2c_number_lem = record {
-  small = λ c f. i2c_small c.addr c.cntl (state_of c.phase) (num c.acknowledged) c.answer (failure_number c.failure) _ refl f.0 f.1 (state_small c.phase) (one c.acknowledged) f.2 (failure_small c.failure);
+  small = λ c f. i2c_small c.addr c.cntl (state_of c.phase) (num c.acknowledged) c.answer (failure_number c.failure) _ refl f.0 f.1 (state_small c.phase) (one c.acknowledged) f.2 f.3;
   back = i2c_back;
-  passes = λ c f. i2c_pass c.addr c.cntl (state_of c.phase) (num c.acknowledged) c.answer (failure_number c.failure) _ refl f.0 f.1 (state_small c.phase) (one c.acknowledged) f.2 (failure_small c.failure);
+  passes = λ c f. i2c_pass c.addr c.cntl (state_of c.phase) (num c.acknowledged) c.answer (failure_number c.failure) _ refl f.0 f.1 (state_small c.phase) (one c.acknowledged) f.2 f.3;
   image = λ v s h. i2c_image v (i2c_passed v h).0 (i2c_passed v h).1.0 (i2c_passed v h).1.1.1;
   fits = λ v s h. i2c_fits v h;
 }

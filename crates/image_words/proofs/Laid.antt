@@ -14,7 +14,7 @@ use Rattle.i2c.specs.declared.I2c.{I2c}
 use Rattle.i2c.specs.I2c.{state_of, failure_number}
 use Rattle.image_words.specs.Words.{i2c_bytes, FitsI2c, encoder_bytes, FitsEncoder}
 use Rattle.image_words.specs.How.{i2c_number, encoder_number}
-use Rattle.image_words.proofs.Numbers.{state_small, failure_small}
+use Rattle.image_words.proofs.Numbers.{state_small}
 use Rattle.image_words.proofs.Digits.{one}
 
 -- a byte, and what is above it
@@ -41,11 +41,10 @@ unfolding i2c_number
 i2c_bytes_lem c f =
     let s = state_small c.phase in
     let o = one c.acknowledged in
-    let g = failure_small c.failure in
     let e : c.addr + 2 ^ 8 * c.cntl + 2 ^ 16 * state_of c.phase + 2 ^ 24 * num c.acknowledged + 2 ^ 32 * c.answer + 2 ^ 40 * failure_number c.failure
     ≡ c.addr + 256 * (c.cntl + 256 * (state_of c.phase + 256 * (num c.acknowledged + 256 * (c.answer + 256 * (failure_number c.failure + 256 * 0))))) = omega arith in
     ap (le_bytes 8) e
-    ∙ low 7 c.addr _ _ f.0 (low 6 c.cntl _ _ (omega arith) (low 5 (state_of c.phase) _ _ (omega arith) (low 4 (num c.acknowledged) _ _ (omega arith) (low 3 c.answer _ _ (omega arith) (low 2 (failure_number c.failure) 0 _ (omega arith) refl)))))
+    ∙ low 7 c.addr _ _ f.0 (low 6 c.cntl _ _ (omega arith) (low 5 (state_of c.phase) _ _ (omega arith) (low 4 (num c.acknowledged) _ _ (omega arith) (low 3 c.answer _ _ (omega arith) (low 2 (failure_number c.failure) 0 _ (omega (arith, f.3)) refl)))))
 
 pub encoder_bytes_lem : (e : Encoder) → FitsEncoder e → le_bytes 8 (encoder_number e) ≡ encoder_bytes e
 unfolding encoder_number

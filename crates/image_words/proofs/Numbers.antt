@@ -9,10 +9,7 @@ use Rattle.encoder_count.specs.Count.{signed}
 use Rattle.encoder.specs.declared.Encoder.{Encoder}
 use Rattle.i2c_code.specs.declared.Phase.{Phase}
 use Rattle.i2c_code.specs.declared.Phase.TheVariants.{Idle, TxIdle, RxIdle}
-use Rattle.std.proofs.Common.{Option, None, Some}
-use Rattle.i2c_code.specs.declared.Failure.{Failure}
-use Rattle.i2c_code.specs.declared.Failure.TheVariants.{Address, Data}
-use Rattle.i2c.specs.I2c.{state_of, failure_number}
+use Rattle.i2c.specs.I2c.{state_of}
 use Rattle.image_words.specs.Words.{FitsEncoder}
 use Rattle.image_words.specs.How.{encoder_number, low_number, encoder_of}
 
@@ -25,11 +22,6 @@ pub state_small : (p : Phase) → state_of p < 3
 state_small Idle = omega arith
 state_small TxIdle = omega arith
 state_small RxIdle = omega arith
-
-pub failure_small : (f : Option Failure) → failure_number f < 3
-failure_small None = omega arith
-failure_small (Some Address) = omega arith
-failure_small (Some Data) = omega arith
 
 pub low_number_lem : (e : Encoder) → FitsEncoder e → low_number e ≡ encoder_number e
 unfolding low_number encoder_number

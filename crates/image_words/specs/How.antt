@@ -7,7 +7,7 @@ use Rattle.encoder.specs.declared.Encoder.{Encoder}
 use Rattle.i2c_code.specs.declared.Phase.{Phase}
 use Rattle.i2c_code.specs.declared.Phase.TheVariants.{Idle, TxIdle, RxIdle}
 use Rattle.i2c_code.specs.declared.Failure.{Failure}
-use Rattle.i2c_code.specs.declared.Failure.TheVariants.{Address, Data}
+use Rattle.i2c_code.specs.declared.Failure.TheVariants.{Address, Data, Other}
 use Rattle.i2c.specs.declared.I2c.{I2c}
 use Rattle.i2c.specs.I2c.{state_of, failure_number}
 
@@ -22,7 +22,7 @@ abbrev pub phase_of : ℕ → Phase
 phase_of n = cond (eqb n 0) Idle (cond (eqb n 1) TxIdle RxIdle)
 
 abbrev pub failure_of : ℕ → Option Failure
-failure_of n = cond (eqb n 1) (Some Address) (cond (eqb n 2) (Some Data) None)
+failure_of n = cond (eqb n 0) None (cond (eqb n 1) (Some Address) (cond (eqb n 2) (Some Data) (Some (Other n))))
 
 unfoldable pub i2c_number : I2c → ℕ
 i2c_number c =

@@ -14,7 +14,7 @@ abbrev pub i2c_bytes : I2c → List ℕ
 i2c_bytes c = c.addr ∷ c.cntl ∷ state_of c.phase ∷ num c.acknowledged ∷ c.answer ∷ failure_number c.failure ∷ 0 ∷ 0 ∷ []
 
 abbrev pub FitsI2c : I2c → Type 0
-FitsI2c c = (c.addr < 256) × (c.cntl < 16) × (c.answer < 4)
+FitsI2c c = (c.addr < 256) × (c.cntl < 16) × (c.answer < 4) × (failure_number c.failure < 3)
 
 -- an encoder: the count's pattern, CNFG, STAT, the pins, whether they were seen
 abbrev pub encoder_bytes : Encoder → List ℕ

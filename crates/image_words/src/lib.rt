@@ -55,12 +55,14 @@ fn phase_of(n: u64) -> Phase
 }
 
 fn failure_of(n: u64) -> Option<Failure>
+    requires { n < 256 }
     ensures { result ≡ failure_of n }
 {
     match n {
+        0 => None,
         1 => Some(Failure::Address),
         2 => Some(Failure::Data),
-        _ => None,
+        _ => Some(Failure::Other(n as u8)),
     }
 }
 

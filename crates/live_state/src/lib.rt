@@ -1,7 +1,7 @@
 // A stream between two chunks: records of any edition and any number, and the bytes of one that is not finished; and the small steps of a chunk.
 #![tactic(auto)]
 
-ghost use Rattle.std.specs.Prelude.{◌≡◌, ◌+◌, ◌*◌, ◌<◌, ◌≤◌, None, length, drop, nat_le};
+ghost use Rattle.std.specs.Prelude.{◌≡◌, ◌+◌, ◌*◌, ◌<◌, ◌≤◌, None, true, is_some, length, drop, nat_le};
 ghost use Rattle.std.specs.Result.{result_err};
 ghost use Rattle.refused.specs.Number.{number_of};
 ghost use Rattle.std.proofs.Math.Seq.{paste};
@@ -136,7 +136,8 @@ pub fn answered(s: Stream, refused: Option<Refusal>) -> Chunked
 
 pub fn end(s: Stream) -> Result<(), Refusal>
     requires { Good s }
-    ensures { number_of (result_err result) ≡ end_of (live_of s) }
+    ensures number { number_of (result_err result) ≡ end_of (live_of s) }
+    ensures same { is_some s.refused ≡ true → result_err result ≡ s.refused }
 {
     match s.refused {
         Some(refusal) => Err(refusal),

@@ -9,6 +9,7 @@ use Rattle.fold.specs.Run.{Course, going, stopped}
 use Rattle.fold.specs.Output.{stop_of}
 use Rattle.replay.specs.Replay.{replayed}
 use Rattle.replay.proofs.Numbers.{small}
+use Rattle.replay.proofs.Proved.{refusal_some}
 use Rattle.made.specs.declared.Failure.{Failure}
 use Rattle.made.specs.Made.{made_of, output_of, failure_by}
 use Rattle.made.proofs.Makes.{whole_answer, whole_output, stopped_answer, stopped_output}
@@ -31,4 +32,4 @@ module _ (make : List ℕ → List ℕ) (log out : List ℕ) (fits : (replayed l
       by (stopped k) c =
           let e = is ∙ stopped_answer make log k c (length out) in
           let m : mid ≡ out = left ∙ stopped_output make log k c out in
-          prints_refused (make log) mid out' p _ (subst (λ (r : Result ℕ Failure). Printing r mid out' p) e x) (omega (arith, small log 16_384 (stop_of (replayed log)) refl)) (omega (arith, ap length m))
+          prints_refused (make log) mid out' p _ (subst (λ (r : Result ℕ Failure). Printing r mid out' p) e x) (omega (arith, (refusal_some log 16_384 k c).1)) (omega (arith, small log 16_384 (stop_of (replayed log)) refl)) (omega (arith, ap length m))

@@ -16,7 +16,6 @@ use Rattle.decimal.proofs.Puts.{put_whole, put_long}
 use Rattle.text.specs.Text.{refused_text, refused_record_text}
 use Rattle.std.specs.Prelude.{Result, Ok, Err, Some, None}
 use Rattle.refused.specs.Number.{number}
-use Rattle.refused.proofs.Numbers.{one_to_twenty}
 use Rattle.made.specs.declared.Failure.{Failure}
 use Rattle.printed.specs.Printed.{Prints, Printing, failure_text}
 
@@ -40,12 +39,9 @@ record_short k i h l =
     let first = ascii "refused " ++ digits_of k in
     omega (arith, length-append (first ++ ascii " record " ++ digits_of i) (10 ∷ []), length-append (first ++ ascii " record ") (digits_of i), length-append first (ascii " record "), length-append (ascii "refused ") (digits_of k), twenty_digits k h, twenty_digits i l)
 
-failure_short : (f : Failure) → f.index < 2 ^ 64 → length (failure_text f) ≤ 57
-failure_short f i = by (ltb (number f.refusal) 7)
+failure_short : (f : Failure) → number f.refusal < 2 ^ 64 → f.index < 2 ^ 64 → length (failure_text f) ≤ 57
+failure_short f small i = by (ltb (number f.refusal) 7)
   where
-    small : number f.refusal < 2 ^ 64
-    small = omega (arith, one_to_twenty f.refusal)
-
     by : (t : Bool) → length (cond t (refused_text (number f.refusal)) (refused_record_text (number f.refusal) f.index)) ≤ 57
     by true = omega (arith, refused_short (number f.refusal) small)
     by false = record_short (number f.refusal) f.index small i
@@ -58,10 +54,10 @@ module _ (text mid out' : List ℕ) (p : Result ℕ ℕ) where
       let o : out' ≡ text ++ rest = x.1 ∙ e in
       rw (q, o) (record { counts = fronts text rest; bytes = take_at text rest (length text) refl; where_to = refl })
 
-  pub prints_refused : (f : Failure) → Printing (Err f) mid out' p → f.index < 2 ^ 64 → 57 ≤ length mid → Prints (Some f) text out' p
-  prints_refused f x i room =
+  pub prints_refused : (f : Failure) → Printing (Err f) mid out' p → number f.refusal < 2 ^ 64 → f.index < 2 ^ 64 → 57 ≤ length mid → Prints (Some f) text out' p
+  prints_refused f x small i room =
       rw x.1 (record {
         counts = put_counts mid out' (failure_text f) x.0 x.2;
-        bytes = (put_whole mid (failure_text f) out' x.0 x.2 (omega (arith, failure_short f i))).1;
+        bytes = (put_whole mid (failure_text f) out' x.0 x.2 (omega (arith, failure_short f small i))).1;
         where_to = refl;
       })

@@ -11,8 +11,7 @@ use Rattle.shrink_rule.specs.Drops.{kept}
 
 pub record Same (log : List ℕ) (room : ℕ) (goes : (replay_of log room).course ≡ going) : Type 0 where
   -- "The smaller log has the same edition"; "notes are kept"
-  pub trailer : (t : Trailer) → trailer_of log ≡ Ok t
-      → (trailer_of (smaller_of log) ≡ Ok (record { start = t.start; count = length (kept [] (records_of log)); edition = t.edition }))
+  pub trailer : (t : Trailer) → trailer_of log ≡ Ok t → (trailer_of (smaller_of log) ≡ Ok (record { start = t.start; count = length (kept [] (records_of log)); edition = t.edition }))
       × (take t.start (smaller_of log) ≡ take t.start log)
   -- its records are those that the rule keeps
   pub records : records_of (smaller_of log) ≡ kept [] (records_of log)

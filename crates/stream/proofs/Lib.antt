@@ -1,3 +1,4 @@
 mod Keeping
 mod Ways
+pub mod Once
 pub mod Proved

@@ -2,7 +2,7 @@
 // contracts and is no invariant of its type, as in `live`.
 #![tactic(auto)]
 
-ghost use Rattle.std.specs.Prelude.{◌≡◌, ◌≤◌, length, IfOk, OnErr};
+ghost use Rattle.std.specs.Prelude.{◌≡◌, ◌≤◌, length, true, is_some, IfOk, OnErr};
 ghost use Rattle.outside.specs.Counts.{IsPrefixLen};
 ghost use Rattle.decimal.specs.Put.{Put};
 ghost use Rattle.live_state.specs.How.{live_of, Good};
@@ -31,6 +31,7 @@ pub fn chunk_text(text: &mut [u8], s: Stream, bytes: &[u8]) -> Shown
     requires ready { Ready s }
     requires bytes_len_bound { length bytes.now ≤ 4096 }
     ensures stream_value { live_of result.stream ≡ (arrived (live_of s) bytes.now).live }
+    ensures same { is_some s.refused ≡ true → result.stream ≡ s }
     ensures put { Put text.old 0 (shown_of (arrived (live_of s) bytes.now)) text.new result.size }
     ensures bytes_len_bound_2 { length (shown_of (arrived (live_of s) bytes.now)) ≤ 5397 }
     ensures ready_2 { Ready result.stream }

@@ -192,7 +192,7 @@ module _ (log : List ℕ) (start : ℕ) (out ts : List ℕ) (ready : Ready log s
               ∙ rw (is_cntr, plain_at)
 
           -- the transcript has something else
-          not_opposite : (t ≡ cond c (neg v) v → ⊥) → ts ≡ opposite log → ⊥
+          pub not_opposite : (t ≡ cond c (neg v) v → ⊥) → ts ≡ opposite log → ⊥
           not_opposite d e = d (is ∙ ap (λ (l : List ℕ). le_of 8 l (8 * j)) e ∙ opposite_at)
 
           -- or what it should have, x

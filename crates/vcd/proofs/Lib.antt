@@ -8,3 +8,4 @@ pub mod Headers
 pub mod Readings
 pub mod Orders
 pub mod Page
+pub mod One

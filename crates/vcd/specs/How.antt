@@ -9,6 +9,7 @@ use Rattle.vcd.specs.declared.Line.{Line}
 use Rattle.vcd.specs.declared.Line.TheVariants.{Fixed, Var, Unknown, Time, Change, Other}
 use Rattle.vcd.specs.declared.Phase.{Phase}
 use Rattle.vcd.specs.declared.Phase.TheVariants.{Header, FirstTime, FirstChange, Changes, Refused}
+use Rattle.vcd.specs.declared.Phase.TheVariants as phase
 use Rattle.vcd.specs.declared.Channel.{Channel}
 use Rattle.vcd.specs.declared.Reader.{Reader}
 use Rattle.vcd.specs.Lines.{fixed_lines, place, var_of}
@@ -68,22 +69,20 @@ lines_of text = lines_from [] text
 -- ---- where a reader stands, in numbers
 
 -- phases 0 to 5 await the fixed line of that place, 2 and 5 the wires before it; 6 the first time, 7 the first change at a time, 8 another
--- change or a later time; 9 has refused
+-- change or a later time; 9 has refused, as all above it
 abbrev pub number_of_phase : Phase → ℕ
 number_of_phase (Header m) = place m
 number_of_phase FirstTime = 6
 number_of_phase FirstChange = 7
 number_of_phase Changes = 8
 number_of_phase Refused = 9
-
-abbrev pub flag : Bool → ℕ
-flag b = cond b 1 0
+number_of_phase (phase.Other n) = 10 + n
 
 abbrev pub pins_of : List Channel → List ℕ
 pins_of xs = map (λ (x : Channel). x.pins) xs
 
 abbrev pub changed_of : List Channel → List ℕ
-changed_of xs = map (λ (x : Channel). flag x.changed) xs
+changed_of xs = map (λ (x : Channel). x.changed) xs
 
 pub record Position : Type 0 where
   pub phase : ℕ

@@ -47,7 +47,8 @@ pub enum Line {
     Other,
 }
 
-// What a reader awaits.
+// What a reader awaits. Whoever calls may give any number of a phase: those above the ones that there
+// are, which no reader reaches, are one case, at which every line is refused.
 #[derive(Clone, Copy, PartialEq, Eq)]
 pub enum Phase {
     // That fixed line of the header; before Upscope and End the wires' lines.
@@ -60,13 +61,15 @@ pub enum Phase {
     Changes,
     // Nothing more: it has refused.
     Refused,
+    Other(u8),
 }
 
-// What a reader knows of an encoder: its pins, and whether they changed at this time.
+// What a reader knows of an encoder: its pins, and whether they changed at this time: 0 if not. A byte,
+// since whoever calls may give any.
 #[derive(Clone, Copy)]
 pub struct Channel {
     pub pins: u8,
-    pub changed: bool,
+    pub changed: u8,
 }
 
 // Where a reader stands: its phase; the wire that has to come next, or where it is even the least

@@ -17,7 +17,7 @@ pub fn opening() -> Reader
         now: 0,
         channels: [Channel {
             pins: NO_WIRE,
-            changed: false,
+            changed: 0,
         }; 20],
     }
 }
@@ -109,7 +109,7 @@ fn unchanged(mut channels: [Channel; 20]) -> [Channel; 20]
     ensures changed { changed_of result ≡ unchanged_of }
 {
     for c in channels.iter_mut() {
-        c.changed = false;
+        c.changed = 0;
     }
     channels
 }
@@ -183,7 +183,7 @@ fn change_turn(r: Reader, wire: usize, b: u8) -> Reader
         let mut channels = r.channels;
         channels[e] = Channel {
             pins: pinned(p, wire, b),
-            changed: true,
+            changed: 1,
         };
         Reader {
             phase: Phase::Changes,

@@ -19,9 +19,12 @@ use Rattle.text.specs.Text.{line, no_number_text}
 use Rattle.edition.specs.declared.Edition.{Edition}
 use Rattle.edition.specs.Edition.{known, edition_of}
 use Rattle.fold.specs.Output.{over}
+use Rattle.refused.specs.Number.{number}
 use Rattle.refused.specs.declared.Refusal.{Refusal}
 use Rattle.refused.specs.declared.Refusal.TheVariants.{LogTooLong, WrongEdition, WrongDistance, OutputTooShort}
 use Rattle.wire.specs.Decode.{decode_of}
+use Rattle.wire.proofs.Formed.{refused_by_lem}
+use Rattle.records.specs.declared.Record.{Record}
 use Rattle.records.specs.Record.{refusal_of}
 use Rattle.trailer.proofs.Laws.{length_records}
 use Rattle.made.specs.declared.Failure.{Failure}
@@ -37,11 +40,11 @@ use Rattle.write_print.specs.Printed.{WritePrinted}
 module _ (most : ℕ) where
   Small : {A : Type 0} → Result A Failure → Type 0
   Small (Ok n) = Unit {0}
-  Small (Err f) = f.index ≤ most
+  Small (Err f) = (f.index ≤ most) × (number f.refusal < 9)
 
-  fixed : (A : Type 0) (k : Refusal) → Small {A = A} (refused_by k)
+  fixed : (A : Type 0) (k : Refusal) → number k < 9 → Small {A = A} (refused_by k)
   unfolding Small
-  fixed A k = omega arith
+  fixed A k h = (omega arith, h)
 
   small_cond : {A : Type 0} (t : Bool) (x y : Result A Failure) → Small x → Small y → Small (cond t x y)
   small_cond true x y p q = p
@@ -55,11 +58,11 @@ module _ (most : ℕ) where
   first_small : (e : Edition) (i : ℕ) (rs : List (List ℕ)) → i + length rs ≤ most → Small (first_of e i rs)
   unfolding Small first_of
   first_small e i [] h = tt
-  first_small e i (r ∷ rs) h = by (refusal_of (decode_of e r)) (first_small e (i + 1) rs (omega arith))
+  first_small e i (r ∷ rs) h = by (decode_of e r) refl (first_small e (i + 1) rs (omega arith))
     where
-      by : (d : Result (Unit {0}) Refusal) → Small (first_of e (i + 1) rs) → Small (first_by d i (first_of e (i + 1) rs))
-      by (Ok q) s = s
-      by (Err k) s = omega arith
+      by : (d : Result Record Refusal) → decode_of e r ≡ d → Small (first_of e (i + 1) rs) → Small (first_by (refusal_of d) i (first_of e (i + 1) rs))
+      by (Ok q) p s = s
+      by (Err k) p s = (omega arith, (refused_by_lem e r k p).1)
 
 module _ (edition : ℕ) (notes run : List ℕ) (room : ℕ) where
   abbrev size : ℕ
@@ -71,13 +74,13 @@ module _ (edition : ℕ) (notes run : List ℕ) (room : ℕ) where
   small : Small few (written_of edition notes run room)
   unfolding Small written_of
   small =
-      small_cond few (not (known edition)) _ _ (fixed few ℕ WrongEdition)
+      small_cond few (not (known edition)) _ _ (fixed few ℕ WrongEdition (omega arith))
       (small_and few (result_and (whole (length run)) (first_of (edition_of edition) 0 (records_in run))) _
       (small_and few (whole (length run)) (first_of (edition_of edition) 0 (records_in run))
-      (small_cond few (eqb (length run % 16) 0) (Ok tt) (refused_by WrongDistance) tt (fixed few (Unit {0}) WrongDistance))
+      (small_cond few (eqb (length run % 16) 0) (Ok tt) (refused_by WrongDistance) tt (fixed few (Unit {0}) WrongDistance (omega arith)))
       (first_small few (edition_of edition) 0 (records_in run) (omega (arith, length_records 16 few run))))
-      (small_cond few (ltb 32768 size) (refused_by LogTooLong) _ (fixed few ℕ LogTooLong)
-      (small_cond few (ltb room size) (refused_by OutputTooShort) (Ok size) (fixed few ℕ OutputTooShort) tt)))
+      (small_cond few (ltb 32768 size) (refused_by LogTooLong) _ (fixed few ℕ LogTooLong (omega arith))
+      (small_cond few (ltb room size) (refused_by OutputTooShort) (Ok size) (fixed few ℕ OutputTooShort (omega arith)) tt)))
 
   -- every log has room in 32,768 bytes
   roomy : 32768 ≤ room → written_of edition notes run room ≡ written_of edition notes run 32_768
@@ -107,7 +110,7 @@ module _ (edition : ℕ) (notes run out mid out' : List ℕ) (p : Result ℕ ℕ
           rw (← roomy edition notes run (length out) room, e) (prints_made log mid out' p n (drop (length log) out) y a.size (left ∙ rw e))
       by (Err f) e y s =
           let m : mid ≡ out = left ∙ rw e in
-          rw (← roomy edition notes run (length out) room, e) (prints_refused (log_of notes run edition) mid out' p f y (omega arith) (omega (arith, ap length m)))
+          rw (← roomy edition notes run (length out) room, e) (prints_refused (log_of notes run edition) mid out' p f y (omega (arith, s.1)) (omega (arith, s.0)) (omega (arith, ap length m)))
 
 -- what is no number
 abbrev edition_word : List ℕ
